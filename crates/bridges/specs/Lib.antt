@@ -1,3 +1,5 @@
 pub mod Net
 pub mod Promise
 pub mod Code
+pub mod Fabric
+pub mod Guarantee
