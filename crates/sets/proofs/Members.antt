@@ -108,14 +108,15 @@ own-bit j =
 pub has-one : (b k : ℕ) → b < 128 → k < 128 → has (2 ^ (127 - b)) k ≡ eqb k b
 unfolding has
 has-one b k h l = elim (cases-order k b) [
-    inl e ↦ eq-eqb _ _ (ap (λ m. bit (2 ^ (127 - b)) (127 - m)) e ∙ own-bit (127 - b)) ∙ sym (eq-eqb k b e)
+  | inl e ↦ eq-eqb _ _ (ap (λ m. bit (2 ^ (127 - b)) (127 - m)) e ∙ own-bit (127 - b)) ∙ sym (eq-eqb k b e)
   | inr (inl lt) ↦
       ne-eqb _ _ (λ z. omega (arith, above-bit (127 - b) (127 - k) (omega arith)))
       ∙ sym (ne-eqb k b (omega arith))
   | inr (inr gt) ↦
       let n : suc (k - b - 1) + (127 - k) ≡ 127 - b = omega arith in
       let z : bit (2 ^ (127 - b)) (127 - k) ≡ 0 = subst (λ m. bit (2 ^ m) (127 - k) ≡ 0) n (below-bit (k - b - 1) (127 - k)) in
-      ne-eqb _ _ (λ o. omega arith) ∙ sym (ne-eqb k b (omega arith)) ]
+      ne-eqb _ _ (λ o. omega arith) ∙ sym (ne-eqb k b (omega arith))
+]
 
 -- the bit as a shift makes it
 pub has-shifted : (b k r : ℕ) → r ≡ b → r < 128 → k < 128 → has (1 * 2 ^ (127 - r) % 2 ^ 128) k ≡ eqb k b
@@ -173,6 +174,7 @@ first-cases s h None n = λ k l. none-before s k h (omega arith)
 first-cases s h (Some b) n = (ap (has s) (n .1) ∙ first-in s h (n .0), λ k l. none-before s k h (omega arith))
 
 pub empty-decides : (s : ℕ) → s < 2 ^ 128 → Decides (eqb s 0) ((k : ℕ) → k < 128 → has s k ≡ false)
-empty-decides s h =
-    ( λ e k l. ap (λ n. has n k) (eqb-true s 0 e) ∙ has-none k
-    , λ none. eq-eqb s 0 (same-members s 0 h (omega arith) (λ k l. none k l ∙ sym (has-none k))) )
+empty-decides s h = (
+  λ e k l. ap (λ n. has n k) (eqb-true s 0 e) ∙ has-none k,
+  λ none. eq-eqb s 0 (same-members s 0 h (omega arith) (λ k l. none k l ∙ sym (has-none k))),
+)

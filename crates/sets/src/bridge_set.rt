@@ -47,35 +47,45 @@ impl BridgeSet {
     pub fn with(self, b: BridgeId) -> BridgeSet
         ensures { λ r. ⌜ ((k : ℕ) → k < 128 → has (r .bits) k ≡ (eqb k (b .value) || has (self .bits) k)) ⌝ }
     {
-        BridgeSet { bits: self.bits | bit_of(b) }
+        BridgeSet {
+            bits: self.bits | bit_of(b),
+        }
     }
 
     // The set with the bridge left out.
     pub fn without(self, b: BridgeId) -> BridgeSet
         ensures { λ r. ⌜ ((k : ℕ) → k < 128 → has (r .bits) k ≡ (not (eqb k (b .value)) && has (self .bits) k)) ⌝ }
     {
-        BridgeSet { bits: self.bits & !bit_of(b) }
+        BridgeSet {
+            bits: self.bits & !bit_of(b),
+        }
     }
 
     // What is in either.
     pub fn union(self, other: BridgeSet) -> BridgeSet
         ensures { λ r. ⌜ ((k : ℕ) → k < 128 → has (r .bits) k ≡ (has (self .bits) k || has (other .bits) k)) ⌝ }
     {
-        BridgeSet { bits: self.bits | other.bits }
+        BridgeSet {
+            bits: self.bits | other.bits,
+        }
     }
 
     // What is in both.
     pub fn intersection(self, other: BridgeSet) -> BridgeSet
         ensures { λ r. ⌜ ((k : ℕ) → k < 128 → has (r .bits) k ≡ (has (self .bits) k && has (other .bits) k)) ⌝ }
     {
-        BridgeSet { bits: self.bits & other.bits }
+        BridgeSet {
+            bits: self.bits & other.bits,
+        }
     }
 
     // What is in this one and not in the other.
     pub fn difference(self, other: BridgeSet) -> BridgeSet
         ensures { λ r. ⌜ ((k : ℕ) → k < 128 → has (r .bits) k ≡ (has (self .bits) k && not (has (other .bits) k))) ⌝ }
     {
-        BridgeSet { bits: self.bits & !other.bits }
+        BridgeSet {
+            bits: self.bits & !other.bits,
+        }
     }
 
     // Is nothing in it?
@@ -105,6 +115,8 @@ impl BridgeSet {
         ensures whole { λ r. ⌜ r .bits ≡ numberOf bytes ⌝ }
         ensures members { λ r. ⌜ ((k : ℕ) → k < 128 → has (r .bits) k ≡ hasByte bytes k) ⌝ }
     {
-        BridgeSet { bits: u128::from_be_bytes(bytes) }
+        BridgeSet {
+            bits: u128::from_be_bytes(bytes),
+        }
     }
 }
