@@ -3,7 +3,7 @@ ghost use mathlib.Core.Path.{_≡_};
 ghost use Prim.Native.Nat.{_<_, _≤_};
 ghost use lib.ListN.{getD};
 ghost use Rattle.std.specs.Options.{Cases as BySome};
-use crate::Vlan;
+use stations::Vlan;
 use sets::BridgeId;
 
 // The number of a port of a bridge: so that its array of ports may be indexed by it.
@@ -55,5 +55,9 @@ pub struct Link {
 pub fn port_at(ports: &[Port; 16], i: usize) -> Port
     ensures { λ r. ⌜ r ≡ getD (now (ports .entry)) i Port.Unused ⌝ }
 {
-    if i < ports.len() { ports[i] } else { Port::Unused }
+    if i < ports.len() {
+        ports[i]
+    } else {
+        Port::Unused
+    }
 }

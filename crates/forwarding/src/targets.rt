@@ -6,11 +6,11 @@ ghost use lib.ListN.{getD};
 ghost use Rattle.sets.specs.Sets.{has};
 ghost use Rattle.forwarding.specs.Ports.{portsOf, onward};
 ghost use Rattle.forwarding.specs.Flags.{marked};
-use sets::BridgeId;
-use sets::BridgeSet;
 use crate::Port;
 use crate::PortId;
 use crate::lowest_port;
+use sets::BridgeId;
+use sets::BridgeSet;
 
 // Sets the flag of the lowest port that leads to a neighbour, if one does.
 fn mark(flags: &mut [bool; 16], port: Option<PortId>)
