@@ -15,7 +15,11 @@ impl BridgeId {
     pub fn new(value: u8) -> Option<BridgeId>
         ensures { λ r. ⌜ BySome r (128 ≤ value) (λ b. (value < 128) × (b .value ≡ value)) ⌝ }
     {
-        if (value as usize) < crate::MOST_BRIDGES { Some(BridgeId { value }) } else { None }
+        if (value as usize) < crate::MOST_BRIDGES {
+            Some(BridgeId { value })
+        } else {
+            None
+        }
     }
 
     // Its number as it stands in a message.
@@ -29,6 +33,6 @@ impl BridgeId {
     pub fn index(self) -> usize
         ensures { λ r. ⌜ r ≡ self .value ⌝ ∗ ⌜ r < 128 ⌝ }
     {
-        self.value as usize
+        usize::from(self.value)
     }
 }
