@@ -12,11 +12,6 @@ use lib.Bits.{bitAnd, bitOr, bitXor, and-shr, or-shr, xor-shr, and-mod, or-mod, 
 use Rattle.std.proofs.shelf.Ways.{tells}
 use Rattle.std.proofs.shelf.Bits.{pow-pos, one-shl}
 use Rattle.std.proofs.shelf.Tests.{cases-lt, cases-order, eq-eqb, ne-eqb, eqb-true, eqb-false}
-use Rattle.std.specs.Options.{Cases}
-use Rattle.std.specs.Orderings.{Decides}
-use Rattle.std.specs.declared.option.Option.{Option}
-use Rattle.std.specs.declared.option.Option.the-variants.{Some, None}
-use Rattle.sets.specs.declared.bridge_id.BridgeId.{BridgeId}
 use Rattle.sets.specs.Sets.{bit, has, Same-members}
 
 xor : Bool → Bool → Bool
@@ -168,13 +163,3 @@ none-at s k z m e h l =
 
 pub none-before : (s k : ℕ) → s < 2 ^ 128 → k < leadingZeros 128 s → has s k ≡ false
 none-before s k h l = let t = leading-length 128 s h in none-at s k (leadingZeros 128 s) (t .0) (t .1) (t .2) l
-
-pub first-cases : (s : ℕ) → s < 2 ^ 128 → (r : Option BridgeId) → Cases r (128 ≤ leadingZeros 128 s) (λ b. (leadingZeros 128 s < 128) × (b .value ≡ leadingZeros 128 s)) → Cases r ((k : ℕ) → k < 128 → has s k ≡ false) (λ b. (has s (b .value) ≡ true) × ((k : ℕ) → k < b .value → has s k ≡ false))
-first-cases s h None n = λ k l. none-before s k h (omega arith)
-first-cases s h (Some b) n = (ap (has s) (n .1) ∙ first-in s h (n .0), λ k l. none-before s k h (omega arith))
-
-pub empty-decides : (s : ℕ) → s < 2 ^ 128 → Decides (eqb s 0) ((k : ℕ) → k < 128 → has s k ≡ false)
-empty-decides s h = (
-  λ e k l. ap (λ n. has n k) (eqb-true s 0 e) ∙ has-none k,
-  λ none. eq-eqb s 0 (same-members s 0 h (omega arith) (λ k l. none k l ∙ sym (has-none k))),
-)

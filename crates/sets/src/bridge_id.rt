@@ -33,6 +33,6 @@ impl BridgeId {
     pub fn index(self) -> usize
         ensures { λ r. ⌜ r ≡ self .value ⌝ ∗ ⌜ r < 128 ⌝ }
     {
-        self.value as usize
+        usize::from(self.value)
     }
 }

@@ -1,24 +1,18 @@
-// Sets of bridges, each in one number of 128 bits.
+// Sets of bridges.
 ghost use mathlib.Core.Path.{_≡_};
-ghost use mathlib.Core.Bool.{Bool, true, false, _&&_, _||_, not};
+ghost use mathlib.Core.Bool.{true, false, _&&_, _||_, not};
 ghost use Prim.Native.Nat.{ℕ, _<_, _≤_};
 ghost use lib.Dec.{eqb};
 ghost use Rattle.std.specs.Options.{Cases as BySome};
-ghost use Rattle.std.specs.Orderings.{Decides};
+ghost use Rattle.std.specs.Orderings.{When};
 ghost use Rattle.sets.specs.Sets.{has, hasByte, bytesOf, numberOf};
 use crate::BridgeId;
+use crate::mask;
 
-// A set of bridges: bridge 0 is the highest bit, as in a message.
+// A set of bridges, small enough to be passed by value: neighbours, and who can be reached.
 #[derive(Clone, Copy, PartialEq, Eq, Debug)]
 pub struct BridgeSet {
     bits: u128,
-}
-
-// The bit of a bridge.
-fn bit_of(b: BridgeId) -> u128
-    ensures { λ r. ⌜ ((k : ℕ) → k < 128 → has r k ≡ eqb k (b .value)) ⌝ }
-{
-    1u128 << (127 - b.index())
 }
 
 impl BridgeSet {
@@ -26,21 +20,23 @@ impl BridgeSet {
     pub fn empty() -> BridgeSet
         ensures { λ r. ⌜ ((k : ℕ) → k < 128 → has (r .bits) k ≡ false) ⌝ }
     {
-        BridgeSet { bits: 0 }
+        BridgeSet { bits: mask::none() }
     }
 
     // One bridge alone.
     pub fn only(b: BridgeId) -> BridgeSet
         ensures { λ r. ⌜ ((k : ℕ) → k < 128 → has (r .bits) k ≡ eqb k (b .value)) ⌝ }
     {
-        BridgeSet { bits: bit_of(b) }
+        BridgeSet {
+            bits: mask::bit_of(b),
+        }
     }
 
-    // Is the bridge in the set?
+    // Is the bridge in it?
     pub fn contains(self, b: BridgeId) -> bool
         ensures { λ r. ⌜ r ≡ has (self .bits) (b .value) ⌝ }
     {
-        (self.bits >> (127 - b.index())) % 2 == 1
+        mask::holds(self.bits, b)
     }
 
     // The set with the bridge in it.
@@ -48,7 +44,7 @@ impl BridgeSet {
         ensures { λ r. ⌜ ((k : ℕ) → k < 128 → has (r .bits) k ≡ (eqb k (b .value) || has (self .bits) k)) ⌝ }
     {
         BridgeSet {
-            bits: self.bits | bit_of(b),
+            bits: mask::either(mask::bit_of(b), self.bits),
         }
     }
 
@@ -57,7 +53,7 @@ impl BridgeSet {
         ensures { λ r. ⌜ ((k : ℕ) → k < 128 → has (r .bits) k ≡ (not (eqb k (b .value)) && has (self .bits) k)) ⌝ }
     {
         BridgeSet {
-            bits: self.bits & !bit_of(b),
+            bits: mask::both(mask::complement(mask::bit_of(b)), self.bits),
         }
     }
 
@@ -66,7 +62,7 @@ impl BridgeSet {
         ensures { λ r. ⌜ ((k : ℕ) → k < 128 → has (r .bits) k ≡ (has (self .bits) k || has (other .bits) k)) ⌝ }
     {
         BridgeSet {
-            bits: self.bits | other.bits,
+            bits: mask::either(self.bits, other.bits),
         }
     }
 
@@ -75,7 +71,7 @@ impl BridgeSet {
         ensures { λ r. ⌜ ((k : ℕ) → k < 128 → has (r .bits) k ≡ (has (self .bits) k && has (other .bits) k)) ⌝ }
     {
         BridgeSet {
-            bits: self.bits & other.bits,
+            bits: mask::both(self.bits, other.bits),
         }
     }
 
@@ -84,30 +80,30 @@ impl BridgeSet {
         ensures { λ r. ⌜ ((k : ℕ) → k < 128 → has (r .bits) k ≡ (has (self .bits) k && not (has (other .bits) k))) ⌝ }
     {
         BridgeSet {
-            bits: self.bits & !other.bits,
+            bits: mask::both(self.bits, mask::complement(other.bits)),
         }
     }
 
     // Is nothing in it?
     pub fn is_empty(self) -> bool
-        ensures { λ r. ⌜ Decides r ((k : ℕ) → k < 128 → has (self .bits) k ≡ false) ⌝ }
+        ensures { λ r. ⌜ When r ((k : ℕ) → k < 128 → has (self .bits) k ≡ false) ((k : ℕ) × (k < 128) × (has (self .bits) k ≡ true)) ⌝ }
     {
-        self.bits == 0
+        mask::lowest(self.bits) == 128
     }
 
     // The lowest bridge in it: None where nothing is in it.
     pub fn first(self) -> Option<BridgeId>
         ensures { λ r. ⌜ BySome r ((k : ℕ) → k < 128 → has (self .bits) k ≡ false) (λ b. (has (self .bits) (b .value) ≡ true) × ((k : ℕ) → k < b .value → has (self .bits) k ≡ false)) ⌝ }
     {
-        BridgeId::new(self.bits.leading_zeros() as u8)
+        BridgeId::new(mask::lowest(self.bits))
     }
 
-    // The set as it stands in a message.
+    // The set as it stands in a message: the high bit of the first byte is bridge 0.
     pub fn to_bytes(self) -> [u8; 16]
         ensures whole { λ r. ⌜ r ≡ bytesOf (self .bits) ⌝ }
         ensures members { λ r. ⌜ ((k : ℕ) → k < 128 → hasByte r k ≡ has (self .bits) k) ⌝ }
     {
-        self.bits.to_be_bytes()
+        mask::to_bytes(self.bits)
     }
 
     // The set that 16 bytes of a message say.
@@ -116,7 +112,7 @@ impl BridgeSet {
         ensures members { λ r. ⌜ ((k : ℕ) → k < 128 → has (r .bits) k ≡ hasByte bytes k) ⌝ }
     {
         BridgeSet {
-            bits: u128::from_be_bytes(bytes),
+            bits: mask::from_bytes(bytes),
         }
     }
 }

@@ -1,5 +1,0 @@
-use Rattle.sets.proofs.Members.{has-none}
-use Rattle.sets.proofs.bridge_set.BridgeSet.empty.Needs as need
-
-pub returns : need.returns
-returns c = λ k h. has-none k

@@ -1,5 +1,0 @@
-use Rattle.sets.proofs.Members.{has-and}
-use Rattle.sets.proofs.bridge_set.BridgeSet.intersection.Needs as need
-
-pub returns : need.returns
-returns c = λ k h. has-and _ _ k

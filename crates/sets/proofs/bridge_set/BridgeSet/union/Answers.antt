@@ -1,5 +1,0 @@
-use Rattle.sets.proofs.Members.{has-or}
-use Rattle.sets.proofs.bridge_set.BridgeSet.union.Needs as need
-
-pub returns : need.returns
-returns c = λ k h. has-or _ _ k
