@@ -1,0 +1,8 @@
+// The forwarding database of one tree: where stations were last heard, and when; what is old is forgotten, and when there is no room the longest unheard of goes.
+mod entry;
+mod search;
+mod station;
+
+pub use entry::Entry;
+pub use entry::Location;
+pub use station::Station;
