@@ -37,7 +37,7 @@ whereIs None = None
 whereIs (Some e) = Some (e .location)
 
 -- where a station is, as far as is known
-unfoldable pub placeOf : List Entry → ℕ → Option Location
+abbrev pub placeOf : List Entry → ℕ → Option Location
 placeOf es s = whereIs (find s es)
 
 -- an entry put in its place, instead of what was held of its station

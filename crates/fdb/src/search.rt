@@ -1,20 +1,19 @@
 // Finding an entry in a run of entries: by its station, or the oldest.
 ghost use mathlib.Core.Path.{_≡_};
 ghost use mathlib.Core.Bool.{true};
-ghost use Prim.Native.Nat.{ℕ, _+_, _<_, _≤_};
-ghost use lib.ListN.{length, getD, set};
+ghost use Prim.Native.Nat.{_<_};
+ghost use lib.ListN.{length, getD};
 ghost use Rattle.std.specs.Results.{Cases as ByOk};
 ghost use Rattle.std.specs.Options.{Cases as BySome};
 ghost use Rattle.std.specs.declared.option.Option.the-variants.{Some, None};
 ghost use Rattle.fdb.specs.Entries.{ascending, noEntry, earlier, oldest};
+ghost use Rattle.fdb.specs.Search.{StandsAt, BelongsAt};
 use crate::entry::Entry;
 
 // The index of a station's entry, or where one would be put.
 pub fn locate(entries: &[Entry], station: u64) -> Result<usize, usize>
     requires { ⌜ ascending (now entries) ≡ true ⌝ }
-    ensures { λ r. ⌜ ByOk r
-        (λ i. (i < length (now (entries .entry))) × (getD (now (entries .entry)) i noEntry .station ≡ station))
-        (λ i. (i ≤ length (now (entries .entry))) × ((k : ℕ) → k < i → getD (now (entries .entry)) k noEntry .station < station) × ((k : ℕ) → i ≤ k → k < length (now (entries .entry)) → station < getD (now (entries .entry)) k noEntry .station)) ⌝ }
+    ensures { λ r. ⌜ ByOk r (StandsAt station (now (entries .entry))) (BelongsAt station (now (entries .entry))) ⌝ }
 {
     let mut size = entries.len();
     if size == 0 {

@@ -1,9 +1,9 @@
-use borrow.Author.Needs.{needs}
 use native.Mathlib.Omega.{arith}
 use Prim.Native.Nat.{ℕ, _+_, _/_}
 use mathlib.Core.Logic.{inl, inr}
+use mathlib.Core.Path.{sym}
 use Rattle.std.proofs.shelf.Tests.{cases-eq}
-use Rattle.fdb.proofs.Ordered.{rises}
+use Rattle.fdb.proofs.Ordered.{rises, stands-at, belongs-at}
 use Rattle.fdb.proofs.search.locate.Needs as need
 use Rattle.fdb.proofs.search.locate.Needs.{then-entries-base, else-entries-base}
 
@@ -17,6 +17,18 @@ loop-size-again c =
         | inr n ↦ grind (arith, w .if-entries-base .left, w .base-is, rises (c .args .entries .now) (c .pre) (c .loop-size .base + c .loop-size .size / 2) k) ])
     ]
 
+pub returns-then-size-eq0 : need.returns-then-size-eq0
+returns-then-size-eq0 c = belongs-at (c .args .station) (c .args .entries .now) 0 (omega arith) (λ k l. absurd (omega arith)) (λ k m l. absurd (omega arith))
+
+pub returns-then-held-station : need.returns-then-held-station
+returns-then-held-station c = stands-at (c .args .station) (c .args .entries .now) (c .pre) (c .loop-size .base) (omega arith) (omega arith)
+
 pub returns-then-held-station-2 : need.returns-then-held-station-2
 returns-then-held-station-2 c =
-    (omega arith, λ k l. grind (arith, rises (c .args .entries .now) (c .pre) k (c .loop-size .base)), λ k m l. c .loop-size .inv .3 k (omega arith) l)
+    belongs-at (c .args .station) (c .args .entries .now) (c .loop-size .base + 1) (omega arith)
+    (λ k l. grind (arith, rises (c .args .entries .now) (c .pre) k (c .loop-size .base))) (λ k m l. c .loop-size .inv .3 k (omega arith) l)
+
+pub returns-else-held-station-2 : need.returns-else-held-station-2
+returns-else-held-station-2 c =
+    belongs-at (c .args .station) (c .args .entries .now) (c .loop-size .base) (omega arith)
+    (λ k l. grind (arith, c .loop-size .inv .2)) (λ k m l. grind (arith, c .loop-size .inv .3 k))
