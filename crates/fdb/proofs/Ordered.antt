@@ -193,3 +193,7 @@ learned-ascending e keep es h =
 pub noted : (e : Entry) (keep : ℕ) (es xs : List Entry) (i : ℕ) → xs ≡ es → StandsAt (e .station) xs i → set es i e ≡ learned e keep es
 noted e keep es xs i q s =
     let t : StandsAt (e .station) es i = subst (λ ys. StandsAt (e .station) ys i) q s in t .2 e refl ∙ learned-known e keep es (getD es i noEntry) (t .1)
+
+pub ascending-remembered : (now : ℕ) (es : List Entry) → ascending es ≡ true → ascending (remembered now es) ≡ true
+unfolding remembered
+ascending-remembered now es h = ascending-kept (fresh now) es h
