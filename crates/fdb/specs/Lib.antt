@@ -1,0 +1,5 @@
+pub mod Address
+pub mod Entries
+pub mod Search
+pub mod Contents
+pub mod Held
