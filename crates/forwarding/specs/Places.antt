@@ -2,10 +2,12 @@
 use mathlib.Core.Bool.{Bool, true, false, not}
 use Prim.Native.Nat.{ℕ}
 use lib.Dec.{eqb}
-use Rattle.forwarding.specs.declared.location.Location.{Location}
-use Rattle.forwarding.specs.declared.location.Location.the-variants.{Unknown, Here, Behind}
-use Rattle.forwarding.specs.declared.location.Ingress.{Ingress}
-use Rattle.forwarding.specs.declared.location.Ingress.the-variants.{Station, Neighbour}
+use Rattle.std.specs.declared.option.Option.{Option}
+use Rattle.std.specs.declared.option.Option.the-variants.{None, Some}
+use Rattle.fdb.specs.declared.entry.Location.{Location}
+use Rattle.fdb.specs.declared.entry.Location.the-variants.{Here, Behind}
+use Rattle.forwarding.specs.declared.ingress.Ingress.{Ingress}
+use Rattle.forwarding.specs.declared.ingress.Ingress.the-variants.{Station, Neighbour}
 
 -- nothing is known; it is behind a port of the bridge; it is behind a neighbour
 pub data Place : Type 0 where
@@ -13,10 +15,13 @@ pub data Place : Type 0 where
   AtPort : (port : ℕ) → Place
   Toward : (neighbour : ℕ) → Place
 
-abbrev pub placeOf : Location → Place
-placeOf Unknown = Nowhere
-placeOf (Here p) = AtPort (p .value)
-placeOf (Behind b) = Toward (b .value)
+abbrev pub placeAt : Location → Place
+placeAt (Here p) = AtPort p
+placeAt (Behind b) = Toward b
+
+abbrev pub placeOf : Option Location → Place
+placeOf None = Nowhere
+placeOf (Some l) = placeAt l
 
 -- from a station behind a port; from a neighbour
 pub data Came : Type 0 where
@@ -31,6 +36,10 @@ cameOf (Neighbour b) = ByBridge (b .value)
 abbrev pub sender : Came → Place
 sender (ByPort p) = AtPort p
 sender (ByBridge b) = Toward b
+
+abbrev pub whereFrom : Ingress → Location
+whereFrom (Station p) = Here (p .value)
+whereFrom (Neighbour b) = Behind (b .value)
 
 -- not back by the port, or to the neighbour, whence it came
 abbrev pub notByPort : Came → ℕ → Bool

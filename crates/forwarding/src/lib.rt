@@ -1,19 +1,21 @@
 // One bridge by value: what it holds, what it has learnt, and what it does with a frame.
+mod egress;
+mod ingress;
 mod lowest;
-mod location;
-mod outward;
 mod port;
 mod targets;
+mod vlan;
 
-pub use location::Ingress;
-pub use location::Location;
+pub use ingress::Ingress;
 pub use lowest::lowest_port;
-pub use outward::outward;
+pub use egress::is_served;
+pub use egress::egress_ports;
 pub use port::Link;
 pub use port::Port;
 pub use port::PortId;
 pub use port::port_at;
 pub use targets::ports_to;
+pub use vlan::Vlan;
 
 // The most ports of a bridge.
 pub const MOST_PORTS: usize = 16;

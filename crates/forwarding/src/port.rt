@@ -3,7 +3,7 @@ ghost use mathlib.Core.Path.{_≡_};
 ghost use Prim.Native.Nat.{_<_, _≤_};
 ghost use lib.ListN.{getD};
 ghost use Rattle.std.specs.Options.{Cases as BySome};
-use stations::Vlan;
+use crate::Vlan;
 use sets::BridgeId;
 
 // The number of a port of a bridge: so that its array of ports may be indexed by it.
@@ -23,6 +23,13 @@ impl PortId {
         } else {
             None
         }
+    }
+
+    // Its number.
+    pub fn value(self) -> u8
+        ensures { λ r. ⌜ r ≡ self .value ⌝ ∗ ⌜ r < 16 ⌝ }
+    {
+        self.value
     }
 
     // Its number as an index.

@@ -5,20 +5,19 @@ ghost use lib.Dec.{eqb};
 ghost use Prim.Native.Nat.{ℕ, _<_};
 ghost use lib.ListN.{getD};
 ghost use Rattle.sets.specs.Sets.{has};
-ghost use Rattle.trees.specs.Shapes.{meaning};
+ghost use Rattle.trees.specs.Meanings.{meaning};
 ghost use Rattle.forwarding.specs.Ports.{kindOf, portsOf};
 ghost use Rattle.forwarding.specs.Places.{placeOf, cameOf, notByPort};
 ghost use Rattle.forwarding.specs.Outward.{serves, toStations, mayGoTo, outBy};
+use fdb::Location;
 use sets::BridgeId;
 use sets::BridgeSet;
-use stations::Vlan;
 use trees::Tree;
 use crate::Ingress;
-use crate::Location;
 use crate::Port;
-use crate::PortId;
 use crate::port_at;
 use crate::ports_to;
+use crate::Vlan;
 
 // May the port have frames of the VLAN? The one place in which that is decided.
 pub fn is_served(port: Port, vlan: Vlan) -> bool
@@ -74,31 +73,37 @@ fn either(a: &[bool; 16], b: &[bool; 16]) -> [bool; 16]
 }
 
 // One port alone of a choice.
-fn only(a: &[bool; 16], port: PortId) -> [bool; 16]
-    ensures { λ r. ⌜ ((p : ℕ) → p < 16 → getD r p false ≡ (eqb (port .value) p && getD (now (a .entry)) p false)) ⌝ }
+fn only(a: &[bool; 16], port: u8) -> [bool; 16]
+    ensures { λ r. ⌜ ((p : ℕ) → p < 16 → getD r p false ≡ (eqb port p && getD (now (a .entry)) p false)) ⌝ }
 {
     let mut flags = [false; 16];
-    flags[port.index()] = a[port.index()];
+    for i in 0..16usize {
+        flags[i] = port as usize == i && a[i];
+    }
     flags
 }
 
+// One neighbour alone of some.
+fn only_bridge(bridges: BridgeSet, bridge: u8) -> BridgeSet
+    ensures { λ r. ⌜ ((k : ℕ) → k < 128 → has (r .bits) k ≡ (eqb bridge k && has (bridges .bits) k)) ⌝ }
+{
+    match BridgeId::new(bridge) {
+        Some(one) => bridges.intersection(BridgeSet::only(one)),
+        None => BridgeSet::empty(),
+    }
+}
+
 // The ports by which a frame of a VLAN that came to a bridge along a tree goes out, to a station that is at a location.
-pub fn outward(ports: &[Port; 16], me: BridgeId, tree: &Tree, vlan: Vlan, ingress: Ingress, location: Location) -> [bool; 16]
+pub fn egress_ports(ports: &[Port; 16], me: BridgeId, tree: &Tree, vlan: Vlan, ingress: Ingress, location: Option<Location>) -> [bool; 16]
     ensures { λ r. ⌜ ((p : ℕ) → p < 16 → getD r p false ≡ outBy (portsOf (now (ports .entry))) (me .value) (meaning (now (tree .entry))) (vlan .value) (cameOf ingress) (placeOf location) p) ⌝ }
 {
     match location {
-        Location::Unknown => {
+        None => {
             let stations = to_stations(ports, vlan, ingress);
             let bridges = ports_to(ports, next_bridges(me, tree, ingress));
             either(&stations, &bridges)
         }
-        Location::Here(port) => {
-            let stations = to_stations(ports, vlan, ingress);
-            only(&stations, port)
-        }
-        Location::Behind(bridge) => {
-            let next = next_bridges(me, tree, ingress);
-            ports_to(ports, next.intersection(BridgeSet::only(bridge)))
-        }
+        Some(Location::Here(port)) => only(&to_stations(ports, vlan, ingress), port),
+        Some(Location::Behind(bridge)) => ports_to(ports, only_bridge(next_bridges(me, tree, ingress), bridge)),
     }
 }

@@ -5,7 +5,7 @@ use lib.ListN.{length, getD}
 use Rattle.forwarding.specs.Ports.{portsOf}
 use Rattle.forwarding.specs.Places.{cameOf}
 use Rattle.forwarding.specs.Outward.{toStations}
-use Rattle.forwarding.proofs.outward.either.Given as given
+use Rattle.forwarding.proofs.egress.to_stations.Given as given
 
 abbrev pub Inv-loop-i : given.InvT-loop-i
-Inv-loop-i l = (length (l .flags) ≡ 16) × ((p : ℕ) → p < l .i → getD (l .flags) p false ≡ (getD (l .a) p false || getD (l .b) p false))
+Inv-loop-i l = (length (l .flags) ≡ 16) × ((p : ℕ) → p < l .i → getD (l .flags) p false ≡ toStations (portsOf (l .ports)) (l .vlan .value) (cameOf (l .ingress)) p)
