@@ -2,3 +2,5 @@ pub mod Ports
 pub mod Flags
 pub mod Places
 pub mod Outward
+pub mod State
+pub mod Holding

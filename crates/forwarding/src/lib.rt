@@ -1,13 +1,19 @@
 // One bridge by value: what it holds, what it has learnt, and what it does with a frame.
+mod along;
+mod bridge;
 mod egress;
+mod held;
 mod ingress;
 mod lowest;
 mod port;
 mod targets;
 mod vlan;
 
+pub use held::Held;
 pub use ingress::Ingress;
 pub use lowest::lowest_port;
+pub use along::forward;
+pub use bridge::Bridge;
 pub use egress::is_served;
 pub use egress::egress_ports;
 pub use port::Link;
