@@ -4,3 +4,5 @@ pub mod Places
 pub mod Outward
 pub mod State
 pub mod Holding
+pub mod Faults
+pub mod Replies

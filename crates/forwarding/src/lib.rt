@@ -2,13 +2,16 @@
 mod along;
 mod bridge;
 mod egress;
+mod fault;
 mod held;
 mod ingress;
 mod lowest;
 mod port;
+mod steps;
 mod targets;
 mod vlan;
 
+pub use fault::Fault;
 pub use held::Held;
 pub use ingress::Ingress;
 pub use lowest::lowest_port;

@@ -1,0 +1,84 @@
+-- What a bridge answers to a frame. Assumes nothing.
+use mathlib.Core.Path.{_≡_}
+use mathlib.Core.Bool.{Bool, true, false, cond, _&&_, _||_, not}
+use mathlib.Core.List.{List}
+use Prim.Native.Nat.{ℕ, _<_, _≤_, _%_}
+use lib.Dec.{eqb, ltb}
+use lib.ListN.{getD}
+use Rattle.std.specs.declared.result.Result.{Result}
+use Rattle.std.specs.declared.result.Result.the-variants.{Ok, Err}
+use Rattle.bridges.specs.Net.{Found, NoTree, This}
+use Rattle.fdb.specs.declared.station.Station.{Station}
+use Rattle.fdb.specs.Address.{groupAddress}
+use Rattle.fdb.specs.Contents.{numberOf}
+use Rattle.forwarding.specs.declared.fault.Fault.{Fault}
+use Rattle.forwarding.specs.declared.fault.Fault.the-variants as fault
+use Rattle.forwarding.specs.declared.ingress.Ingress.{Ingress}
+use Rattle.forwarding.specs.declared.port.Port.{Port}
+use Rattle.forwarding.specs.declared.port.Port.the-variants as port
+use Rattle.forwarding.specs.declared.port.Link.{Link}
+use Rattle.std.specs.declared.option.Option.{Option}
+use Rattle.forwarding.specs.Ports.{Kind, Idle, ToStations, ToBridge, portsOf}
+use Rattle.forwarding.specs.Places.{cameOf}
+use Rattle.forwarding.specs.State.{Slot, State, isTree, heardIn, lookIn, goesOut, isAccess, linked}
+
+-- it is refused; it goes along the newest tree, or along the older one
+pub data Way : Type 0 where
+  Refuse : Fault → Way
+  Newest : Way
+  Older : Way
+
+abbrev pub none : Found → Bool
+none NoTree = true
+none (This t) = false
+
+-- the VLAN of the stations behind a port; 0 if it leads to none
+abbrev pub vlanAt : Kind → ℕ
+vlanAt Idle = 0
+vlanAt (ToStations v) = v
+vlanAt (ToBridge c up) = 0
+
+-- a frame from a station at a port goes along the newest tree; without one, or by a port with no VLAN, it is dropped
+abbrev pub stationWay : State → ℕ → List ℕ → Way
+stationWay s port from =
+    cond (groupAddress from) (Refuse fault.GroupSender)
+    (cond (not (ltb port 16)) (Refuse fault.NoSuchPort)
+    (cond (eqb (vlanAt (portsOf (s .ports) port)) 0) (Refuse fault.NoVlan)
+    (cond (none (s .newest .tree)) (Refuse fault.NoTree) Newest)))
+
+-- a frame from a neighbour goes along the tree that it names; without any tree, or if it is for another bridge, or along a tree that isn't held, it is dropped
+abbrev pub neighbourWay : State → ℕ → ℕ → List ℕ → Way
+neighbourWay s for tree from =
+    cond (groupAddress from) (Refuse fault.GroupSender)
+    (cond (none (s .newest .tree)) (Refuse fault.NoTree)
+    (cond (not (eqb for (s .number))) (Refuse fault.NotForUs)
+    (cond (isTree tree (s .newest .tree)) Newest
+    (cond (isTree tree (s .older .tree)) Older (Refuse fault.UnknownTree)))))
+
+-- the bridge after a frame came along a way
+abbrev pub after : Way → Ingress → Station → Station → ℕ → State → State
+after (Refuse f) ingress from to tick s = s
+after Newest ingress from to tick s = record { number = s .number; ports = s .ports; newest = heardIn ingress from to tick (s .newest); older = s .older }
+after Older ingress from to tick s = record { number = s .number; ports = s .ports; newest = s .newest; older = heardIn ingress from to tick (s .older) }
+
+-- by which ports a frame goes out along the tree of a slot, once its sender is learnt there
+abbrev pub outOf : State → Slot → ℕ → Ingress → Station → ℕ → Bool
+outOf s slot vlan ingress to p = goesOut (portsOf (s .ports)) (s .number) (slot .tree) vlan (cameOf ingress) (lookIn slot (numberOf to)) p
+
+-- the answer: a refusal, or a flag for each port by which it goes out
+abbrev pub Answers : Way → State → ℕ → Ingress → Station → Station → ℕ → Result (List Bool) Fault → Type 0
+Answers (Refuse f) s vlan ingress from to tick r = r ≡ Err f
+Answers Newest s vlan ingress from to tick (Ok out) = (p : ℕ) → p < 16 → getD out p false ≡ outOf s (heardIn ingress from to tick (s .newest)) vlan ingress to p
+Answers Newest s vlan ingress from to tick (Err f) = ⊥
+Answers Older s vlan ingress from to tick (Ok out) = (p : ℕ) → p < 16 → getD out p false ≡ outOf s (heardIn ingress from to tick (s .older)) vlan ingress to p
+Answers Older s vlan ingress from to tick (Err f) = ⊥
+
+-- a port that is there, and that leads to no stations, may be given a link
+abbrev pub mayLink : ℕ → State → Bool
+mayLink p s = ltb p 16 && not (isAccess (getD (s .ports) p port.Unused))
+
+abbrev pub relinked : ℕ → Option Link → State → State
+relinked p link s = cond (mayLink p s) (linked p link s) s
+
+abbrev pub linkAnswer : ℕ → State → Result (Unit {0}) Fault
+linkAnswer p s = cond (ltb p 16) (cond (isAccess (getD (s .ports) p port.Unused)) (Err fault.NotATrunk) (Ok tt)) (Err fault.NoSuchPort)
