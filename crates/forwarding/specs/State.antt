@@ -9,16 +9,14 @@ use Rattle.std.specs.declared.option.Option.{Option}
 use Rattle.std.specs.declared.option.Option.the-variants.{None, Some}
 use Rattle.trees.specs.Tree.{Tree}
 use Rattle.bridges.specs.Net.{Found, NoTree, This}
-use Rattle.fdb.specs.declared.station.Station.{Station}
 use Rattle.fdb.specs.declared.entry.Location.{Location}
 use Rattle.fdb.specs.Entries as entries
-use Rattle.fdb.specs.Contents.{Contents, empty, learnt, aged, numberOf}
+use Rattle.fdb.specs.Contents.{Contents, empty, learned, next, aged}
 use Rattle.forwarding.specs.declared.port.Port.{Port}
 use Rattle.forwarding.specs.declared.port.Port.the-variants.{Unused, Access, Trunk}
 use Rattle.forwarding.specs.declared.port.Link.{Link}
-use Rattle.forwarding.specs.declared.ingress.Ingress.{Ingress}
 use Rattle.forwarding.specs.Ports.{Kind, portsOf}
-use Rattle.forwarding.specs.Places.{Place, placeOf, Came, cameOf, whereFrom}
+use Rattle.forwarding.specs.Places.{Place, placeOf, Came}
 use Rattle.forwarding.specs.Outward.{outBy}
 
 -- a place for a tree: the tree, and what was learnt along it
@@ -79,8 +77,9 @@ abbrev pub linked : ℕ → Option Link → State → State
 linked p link s = record { number = s .number; ports = set (s .ports) p (linkPort link); newest = s .newest; older = s .older }
 
 -- a frame from a station to another came along the tree of a slot: the sender is learnt, and never in the place of the one that the frame is for
-abbrev pub heardIn : Ingress → Station → Station → ℕ → Slot → Slot
-heardIn ingress from to tick slot = record { tree = slot .tree; table = learnt from (whereFrom ingress) tick to (slot .table) }
+abbrev pub heardIn : Location → ℕ → ℕ → ℕ → Slot → Slot
+heardIn at from to tick slot = record { tree = slot .tree; table = record {
+    entries = learned (record { station = from; location = at; tick = tick; order = slot .table .heard }) to (slot .table .entries); heard = next (slot .table .heard) } }
 
 -- by which ports it then goes out
 abbrev pub goesOut : (ℕ → Kind) → ℕ → Found → ℕ → Came → Place → ℕ → Bool

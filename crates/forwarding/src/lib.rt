@@ -3,6 +3,7 @@ mod along;
 mod bridge;
 mod egress;
 mod fault;
+mod frames;
 mod held;
 mod ingress;
 mod lowest;
@@ -12,6 +13,7 @@ mod targets;
 mod vlan;
 
 pub use fault::Fault;
+pub use frames::Arrival;
 pub use held::Held;
 pub use ingress::Ingress;
 pub use lowest::lowest_port;
