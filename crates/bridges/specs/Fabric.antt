@@ -9,12 +9,14 @@ use Prim.Native.Nat.{ℕ, zero, suc}
 use lib.Dec.{eqb, ltb}
 use Rattle.trees.specs.Tree.{Tree, looks, isIn}
 use Rattle.bridges.specs.Net.{
-    Frame, Copy, Where, Unknown, Got, Rules, World, Found, NoTree, This, treeOf, cameBy, toward, mayGet, knows, learns, without, with-copies, two,
+    Frame, Copy, Where, Unknown, Here, Behind, Got, Rules, World, Found, NoTree, This, treeOf, cameBy, toward, mayGet, knows, learns, without, with-copies, two,
     sendBy, announceIf, at, at2, start}
 
 -- a station sends a frame, along the newest tree of its bridge; a copy arrives at its bridge, or is lost; a bridge
 -- comes to believe that its link to a neighbour is up, or down; a tree is announced, and adopted; a station moves; a
--- bridge forgets a station along a tree; a bridge crashes, and with it all that it had
+-- bridge forgets a station along a tree; a bridge crashes, and with it all that it had; what a bridge has learnt of a
+-- station at one of its own ports comes to lead to the right port, or to a wrong one, since the station was plugged in
+-- elsewhere
 pub data Event : Type 0 where
   Send : (station to : ℕ) → Event
   Arrive : (which : ℕ) → Event
@@ -25,6 +27,7 @@ pub data Event : Type 0 where
   Move : (station bridge : ℕ) → Event
   Forget : (bridge tree station : ℕ) → Event
   Crash : (bridge : ℕ) → Event
+  Turn : (bridge tree station : ℕ) → Bool → Event
 
 -- what a bridge goes by, given what it has learnt of the station that a frame is for: a frame to its own sender is
 -- known whence it came
@@ -68,6 +71,13 @@ adoptIf lax r b n (This t) w = cond (not (looks (r .bridges) t) || (not lax && i
     home = w .home; up = w .up; trees = w .trees; holds = at b (two (n ∷ w .holds b)) (w .holds); learned = w .learned;
     copies = w .copies; got = w .got; next = w .next })
 
+-- a bridge's belief that a station is at one of its ports, when the port is the right one or not: a wrong port is a
+-- dead end, as if the station were behind the bridge itself, to which it is never joined
+abbrev pub turned : ℕ → Bool → Where → Where
+turned b ok Unknown = Unknown
+turned b ok Here = cond ok Here (Behind b)
+turned b ok (Behind c) = cond (ok && eqb c b) Here (Behind c)
+
 abbrev pub happen : Bool → Rules → Event → World → World
 happen lax r (Send s d) w = cond (ltb s (r .stations) && ltb d (r .stations)) (sendBy r s d (w .holds (w .home s)) w) w
 happen lax r (Arrive i) w = arrives lax r i (w .copies) (with-copies (without i (w .copies)) w)
@@ -78,6 +88,7 @@ happen lax r (Adopt b n) w = adoptIf lax r b n (treeOf n (w .trees)) w
 happen lax r (Move s b) w = cond (ltb b (r .bridges)) (record { home = at s b (w .home); up = w .up; trees = w .trees; holds = w .holds; learned = w .learned; copies = w .copies; got = w .got; next = w .next }) w
 happen lax r (Forget b n s) w = record { home = w .home; up = w .up; trees = w .trees; holds = w .holds; learned = λ p t q. cond (eqb p b && (eqb t n && eqb q s)) Unknown (w .learned p t q); copies = w .copies; got = w .got; next = w .next }
 happen lax r (Crash b) w = record { home = w .home; up = w .up; trees = w .trees; holds = at b [] (w .holds); learned = λ p t q. cond (eqb p b) Unknown (w .learned p t q); copies = w .copies; got = w .got; next = w .next }
+happen lax r (Turn b n s ok) w = record { home = w .home; up = w .up; trees = w .trees; holds = w .holds; learned = λ p t q. cond (eqb p b && (eqb t n && eqb q s)) (turned b ok (w .learned p t q)) (w .learned p t q); copies = w .copies; got = w .got; next = w .next }
 
 -- by events, the latest first
 unfoldable pub run : Bool → Rules → List Event → World

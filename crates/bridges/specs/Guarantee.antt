@@ -11,7 +11,7 @@ use lib.ListN.{length}
 use Rattle.trees.specs.Tree.{Tree, looks, joined, isIn, different}
 use Rattle.bridges.specs.Net.{Frame, Copy, Where, Unknown, Got, Rules, World, NoTree, treeOf}
 use Rattle.bridges.specs.Promise.{NotWrong, Rests, Linked, countGot, noneOf}
-use Rattle.bridges.specs.Fabric.{Event, Send, Arrive, Lose, Believe, Announce, Adopt, Move, Forget, Crash, run}
+use Rattle.bridges.specs.Fabric.{Event, Send, Arrive, Lose, Believe, Announce, Adopt, Move, Forget, Crash, Turn, run}
 
 abbrev pub some : List ℕ → Bool
 some [] = false
@@ -34,12 +34,14 @@ sentBy lax r (Adopt b n ∷ es) f s d = sentBy lax r es f s d
 sentBy lax r (Move a b ∷ es) f s d = sentBy lax r es f s d
 sentBy lax r (Forget b n a ∷ es) f s d = sentBy lax r es f s d
 sentBy lax r (Crash b ∷ es) f s d = sentBy lax r es f s d
+sentBy lax r (Turn b n a ok ∷ es) f s d = sentBy lax r es f s d
 
 -- how often a station got a frame, at whichever bridges
 unfoldable pub countAll : ℕ → ℕ → List Got → ℕ
 countAll f s [] = 0
 countAll f s (g ∷ gs) = cond (eqb (g .frame) f && eqb (g .station) s) 1 0 + countAll f s gs
 
+-- a station moves to another bridge, or to another port
 abbrev pub moves : ℕ → Event → Bool
 moves s (Move a b) = eqb a s
 moves s (Send a d) = false
@@ -50,6 +52,7 @@ moves s (Announce t) = false
 moves s (Adopt b n) = false
 moves s (Forget b n a) = false
 moves s (Crash b) = false
+moves s (Turn b n a ok) = eqb a s
 
 unfoldable pub stays : ℕ → List Event → Bool
 stays s [] = true
@@ -65,6 +68,7 @@ forgets n s (Believe a b c) = false
 forgets n s (Announce t) = false
 forgets n s (Adopt b m) = false
 forgets n s (Crash b) = false
+forgets n s (Turn b m a ok) = false
 
 unfoldable pub remembered : ℕ → ℕ → List Event → Bool
 remembered n s [] = true
@@ -88,6 +92,7 @@ quiet t f d w (Adopt b n) = false
 quiet t f d w (Move a b) = not (eqb a d)
 quiet t f d w (Forget b n a) = true
 quiet t f d w (Crash b) = false
+quiet t f d w (Turn b n a ok) = not (eqb a d)
 
 unfoldable pub quietly : Bool → Rules → Tree → ℕ → ℕ → List Event → List Event → Bool
 quietly lax r t f d es [] = true
@@ -109,6 +114,7 @@ onlyTrees (Believe a b c ∷ es) = false
 onlyTrees (Move s b ∷ es) = false
 onlyTrees (Forget b n s ∷ es) = false
 onlyTrees (Crash b ∷ es) = false
+onlyTrees (Turn b n s ok ∷ es) = false
 
 -- THE PROMISE, after any events. No copy of a frame comes to a bridge where that copy was. No bridge hands a frame to a
 -- station twice, and a station that stays gets it at most once. Who gets a frame is of its sender's VLAN and isn't its

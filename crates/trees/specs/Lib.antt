@@ -1,1 +1,2 @@
 pub mod Tree
+pub mod Walks

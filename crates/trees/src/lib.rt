@@ -1,4 +1,8 @@
 // The most bridges of a net.
+mod walks;
+
+pub use walks::walks_are_simple;
+
 ghost use mathlib.Core.Path.{_≡_};
 
 pub fn most_bridges() -> u8
