@@ -1,3 +1,4 @@
 pub mod Dropped
 pub mod Spanning
 pub mod CanRest
+pub mod MainFrom

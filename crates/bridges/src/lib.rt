@@ -1,4 +1,8 @@
 // The promise of the whole net: a crate of statements, each proved on a function whose `ensures` names it.
+mod given;
+
+pub use given::main_follows;
+
 ghost use mathlib.Core.Path.{_≡_};
 
 // The most stations that one bridge learns along one tree.
