@@ -1,7 +1,8 @@
--- The net that code is proved against: that of Net, bettered in four places. Each bridge has its own belief of each of
--- its links; a frame to its own sender is known whence it came, so it goes nowhere; nobody is handed its own frame; and
--- adopting the tree that is the newest already changes nothing. With `lax` true the last three are as in Net, so that
--- what is proved for both values of `lax` is proved of Net too; the code is proved against `lax` false. Assumes nothing.
+-- The net that code is proved against: that of Net, bettered in five places. Each bridge has its own belief of each of
+-- its links; a station may be plugged in nowhere, and then sends and gets nothing; a frame to its own sender is known
+-- whence it came, so it goes nowhere; nobody is handed its own frame; and adopting the tree that is the newest already
+-- changes nothing. With `lax` true the last four are as in Net, so that what is proved for both values of `lax` is
+-- proved of Net too; the code is proved against `lax` false. Assumes nothing.
 use mathlib.Core.Path.{_≡_}
 use mathlib.Core.Bool.{Bool, true, false, cond, _&&_, _||_, not}
 use mathlib.Core.List.{List, [], _∷_, _++_}
@@ -79,18 +80,24 @@ turned b ok Here = cond ok Here (Behind b)
 turned b ok (Behind c) = cond (ok && eqb c b) Here (Behind c)
 
 abbrev pub happen : Bool → Rules → Event → World → World
-happen lax r (Send s d) w = cond (ltb s (r .stations) && ltb d (r .stations)) (sendBy r s d (w .holds (w .home s)) w) w
+happen lax r (Send s d) w = cond ((lax || ltb (w .home s) (r .bridges)) && (ltb s (r .stations) && ltb d (r .stations))) (sendBy r s d (w .holds (w .home s)) w) w
 happen lax r (Arrive i) w = arrives lax r i (w .copies) (with-copies (without i (w .copies)) w)
 happen lax r (Lose i) w = with-copies (without i (w .copies)) w
 happen lax r (Believe a b c) w = record { home = w .home; up = at2 a b c (w .up); trees = w .trees; holds = w .holds; learned = w .learned; copies = w .copies; got = w .got; next = w .next }
 happen lax r (Announce t) w = announceIf t (treeOf (t .number) (w .trees)) w
 happen lax r (Adopt b n) w = adoptIf lax r b n (treeOf n (w .trees)) w
-happen lax r (Move s b) w = cond (ltb b (r .bridges)) (record { home = at s b (w .home); up = w .up; trees = w .trees; holds = w .holds; learned = w .learned; copies = w .copies; got = w .got; next = w .next }) w
+happen lax r (Move s b) w = cond (not lax || ltb b (r .bridges)) (record { home = at s b (w .home); up = w .up; trees = w .trees; holds = w .holds; learned = w .learned; copies = w .copies; got = w .got; next = w .next }) w
 happen lax r (Forget b n s) w = record { home = w .home; up = w .up; trees = w .trees; holds = w .holds; learned = λ p t q. cond (eqb p b && (eqb t n && eqb q s)) Unknown (w .learned p t q); copies = w .copies; got = w .got; next = w .next }
 happen lax r (Crash b) w = record { home = w .home; up = w .up; trees = w .trees; holds = at b [] (w .holds); learned = λ p t q. cond (eqb p b) Unknown (w .learned p t q); copies = w .copies; got = w .got; next = w .next }
 happen lax r (Turn b n s ok) w = record { home = w .home; up = w .up; trees = w .trees; holds = w .holds; learned = λ p t q. cond (eqb p b && (eqb t n && eqb q s)) (turned b ok (w .learned p t q)) (w .learned p t q); copies = w .copies; got = w .got; next = w .next }
 
+-- at first nobody is plugged in: a station at a bridge that isn't there is nowhere
+abbrev pub begin : Bool → Rules → World
+begin lax r = record {
+    home = λ s. cond lax 0 (r .bridges); up = start .up; trees = start .trees; holds = start .holds; learned = start .learned;
+    copies = start .copies; got = start .got; next = start .next }
+
 -- by events, the latest first
 unfoldable pub run : Bool → Rules → List Event → World
-run lax r [] = start
+run lax r [] = begin lax r
 run lax r (e ∷ es) = happen lax r e (run lax r es)

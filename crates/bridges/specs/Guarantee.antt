@@ -17,15 +17,15 @@ abbrev pub some : List ℕ → Bool
 some [] = false
 some (x ∷ xs) = true
 
--- does a send make a frame: both stations are there, and the sender's bridge has a tree
-abbrev pub makes : Rules → World → ℕ → ℕ → Bool
-makes r w s d = ltb s (r .stations) && (ltb d (r .stations) && some (w .holds (w .home s)))
+-- does a send make a frame: both stations are there, the sender is plugged in, and its bridge has a tree
+abbrev pub makes : Bool → Rules → World → ℕ → ℕ → Bool
+makes lax r w s d = ((lax || ltb (w .home s) (r .bridges)) && (ltb s (r .stations) && ltb d (r .stations))) && some (w .holds (w .home s))
 
 -- did station s send frame f to station d
 unfoldable pub sentBy : Bool → Rules → List Event → ℕ → ℕ → ℕ → Bool
 sentBy lax r [] f s d = false
 sentBy lax r (Send a e ∷ es) f s d =
-    (makes r (run lax r es) a e && (eqb (run lax r es .next) f && (eqb a s && eqb e d))) || sentBy lax r es f s d
+    (makes lax r (run lax r es) a e && (eqb (run lax r es .next) f && (eqb a s && eqb e d))) || sentBy lax r es f s d
 sentBy lax r (Arrive i ∷ es) f s d = sentBy lax r es f s d
 sentBy lax r (Lose i ∷ es) f s d = sentBy lax r es f s d
 sentBy lax r (Believe a b c ∷ es) f s d = sentBy lax r es f s d
