@@ -3,3 +3,5 @@ pub mod Promise
 pub mod Code
 pub mod Fabric
 pub mod Guarantee
+pub mod Trace
+pub mod Cases

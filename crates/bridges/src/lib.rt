@@ -1,7 +1,9 @@
 // The promise of the whole net: a crate of statements, each proved on a function whose `ensures` names it.
 mod given;
+mod worked;
 
 pub use given::main_follows;
+pub use worked::worked_cases_hold;
 
 ghost use mathlib.Core.Path.{_≡_};
 
