@@ -2,7 +2,6 @@
 mod walks;
 
 pub use walks::walks_are_simple;
-
 ghost use mathlib.Core.Path.{_≡_};
 
 pub fn most_bridges() -> u8

@@ -1,0 +1,3 @@
+pub mod Under
+pub mod Simple
+pub mod Ahead
