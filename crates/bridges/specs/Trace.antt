@@ -1,6 +1,6 @@
 -- What a run shows from outside: at which bridges copies of a frame were, by which links they went, who got it, and what
 -- a bridge answers to an event. Assumes nothing.
-use mathlib.Core.Bool.{Bool, true, false, cond, _&&_}
+use mathlib.Core.Bool.{Bool, true, false, cond, _&&_, _||_}
 use mathlib.Core.List.{List, [], _∷_, _++_}
 use Prim.Native.Nat.{ℕ, zero, suc}
 use lib.Dec.{eqb, ltb}
@@ -31,24 +31,25 @@ abbrev pub adoptAnswer : Rules → Found → ℕ
 adoptAnswer r NoTree = 0
 adoptAnswer r (This t) = cond (looks (r .bridges) t) 0 5
 
--- the answer to an event: 2 a station that isn't there, 3 a frame at a bridge that has no tree, 4 one along a tree that
--- it doesn't have, 5 a tree that isn't one
-abbrev pub answer : Rules → World → Event → ℕ
-answer r w (Send s d) = cond (ltb s (r .stations) && ltb d (r .stations)) (sendAnswer (w .holds (w .home s))) 2
-answer r w (Arrive i) = arriveAnswer w (copyAt i (w .copies))
-answer r w (Adopt b n) = adoptAnswer r (treeOf n (w .trees))
-answer r w (Lose i) = 0
-answer r w (Believe a b c) = 0
-answer r w (Announce t) = 0
-answer r w (Move s b) = 0
-answer r w (Forget b n s) = 0
-answer r w (Crash b) = 0
-answer r w (Turn b n s ok) = 0
+-- the answer to an event: 2 a station that isn't there or is nowhere, 3 a frame at a bridge that has no tree, 4 one along
+-- a tree that it doesn't have, 5 a tree that isn't one
+abbrev pub answer : Bool → Rules → World → Event → ℕ
+answer lax r w (Send s d) =
+    cond ((lax || ltb (w .home s) (r .bridges)) && (ltb s (r .stations) && ltb d (r .stations))) (sendAnswer (w .holds (w .home s))) 2
+answer lax r w (Arrive i) = arriveAnswer w (copyAt i (w .copies))
+answer lax r w (Adopt b n) = adoptAnswer r (treeOf n (w .trees))
+answer lax r w (Lose i) = 0
+answer lax r w (Believe a b c) = 0
+answer lax r w (Announce t) = 0
+answer lax r w (Move s b) = 0
+answer lax r w (Forget b n s) = 0
+answer lax r w (Crash b) = 0
+answer lax r w (Turn b n s ok) = 0
 
 -- the answer to the latest event
 unfoldable pub lastAnswer : Bool → Rules → List Event → ℕ
 lastAnswer lax r [] = 0
-lastAnswer lax r (e ∷ es) = answer r (run lax r es) e
+lastAnswer lax r (e ∷ es) = answer lax r (run lax r es) e
 
 -- the copy that arrives with an event, if it is of frame f
 unfoldable pub ofFrame : ℕ → List Copy → List Copy
