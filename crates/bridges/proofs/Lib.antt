@@ -2,3 +2,4 @@ pub mod Dropped
 pub mod Spanning
 pub mod CanRest
 pub mod MainFrom
+pub mod Premises

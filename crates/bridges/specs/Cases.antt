@@ -69,11 +69,15 @@ treeOf1 = record { number = 2; above = λ b. cond (eqb b 2) 1 b; far = λ b. con
 abbrev pub noTree : Tree
 noTree = record { number = 3; above = λ b. cond (eqb b 1) 2 (cond (eqb b 2) 1 b); far = λ b. 1 }
 
--- cables and stations, and the tree of 0 at all
-unfoldable pub laid : List Event
-laid = after [] (
+-- cables and stations
+unfoldable pub cabled : List Event
+cabled = after [] (
     Believe 0 1 true ∷ Believe 1 0 true ∷ Believe 1 2 true ∷ Believe 2 1 true ∷ Believe 2 0 true ∷ Believe 0 2 true ∷
-    Move 0 1 ∷ Move 1 2 ∷ Move 2 0 ∷ Move 3 1 ∷ Move 4 1 ∷ Announce treeOf0 ∷ Adopt 0 1 ∷ Adopt 1 1 ∷ Adopt 2 1 ∷ [])
+    Move 0 1 ∷ Move 1 2 ∷ Move 2 0 ∷ Move 3 1 ∷ Move 4 1 ∷ [])
+
+-- and the tree of 0 at all
+unfoldable pub laid : List Event
+laid = after cabled (Announce treeOf0 ∷ Adopt 0 1 ∷ Adopt 1 1 ∷ Adopt 2 1 ∷ [])
 
 -- station 0 sends to station 1, of which nobody knows, and station 1 replies
 unfoldable pub asked : List Event

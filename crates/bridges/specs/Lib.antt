@@ -5,3 +5,4 @@ pub mod Fabric
 pub mod Guarantee
 pub mod Trace
 pub mod Cases
+pub mod Witness

@@ -1,8 +1,10 @@
 // The promise of the whole net: a crate of statements, each proved on a function whose `ensures` names it.
 mod given;
+mod witness;
 mod worked;
 
 pub use given::main_follows;
+pub use witness::premises_can_hold;
 pub use worked::worked_cases_hold;
 
 ghost use mathlib.Core.Path.{_≡_};
