@@ -114,7 +114,19 @@ cases =
     record { letter = 3; events = after fallen (Send 0 1 ∷ Arrive 0 ∷ Arrive 0 ∷ []); look = record { frame = 3; tree = 1; station = 1 }; expected = record {
       visited = 1 ∷ 0 ∷ []; used = hop 1 0 ∷ []; received = [];
       knowing = Unknown ∷ Behind 0 ∷ Here ∷ []; holding = [] ∷ (1 ∷ []) ∷ (1 ∷ []) ∷ []; answered = 3 } } ∷
-    -- and along the tree of 1 the link between 1 and 2 is used
+    -- nor even to 0 once its link is down, known
+    record { letter = 3; events = after fallen (Believe 1 0 false ∷ Send 0 1 ∷ Arrive 0 ∷ []); look = record { frame = 3; tree = 1; station = 1 }; expected = record {
+      visited = 1 ∷ []; used = []; received = [];
+      knowing = Unknown ∷ Behind 0 ∷ Here ∷ []; holding = [] ∷ (1 ∷ []) ∷ (1 ∷ []) ∷ []; answered = 0 } } ∷
+    -- or not known where to
+    record { letter = 3; events = after fallen (Believe 1 0 false ∷ Send 0 2 ∷ Arrive 0 ∷ []); look = record { frame = 3; tree = 1; station = 2 }; expected = record {
+      visited = 1 ∷ []; used = []; received = to 4 1 ∷ [];
+      knowing = Unknown ∷ Unknown ∷ Unknown ∷ []; holding = [] ∷ (1 ∷ []) ∷ (1 ∷ []) ∷ []; answered = 0 } } ∷
+    -- and the stations of 0 can't send
+    record { letter = 3; events = after fallen (Send 2 1 ∷ []); look = record { frame = 3; tree = 1; station = 1 }; expected = record {
+      visited = []; used = []; received = [];
+      knowing = Unknown ∷ Behind 0 ∷ Here ∷ []; holding = [] ∷ (1 ∷ []) ∷ (1 ∷ []) ∷ []; answered = 3 } } ∷
+    -- along the tree of 1 the link between 1 and 2 is used
     record { letter = 3; events = after announced (Adopt 2 2 ∷ Send 0 1 ∷ Arrive 0 ∷ Arrive 0 ∷ []); look = record { frame = 3; tree = 2; station = 0 }; expected = record {
       visited = 1 ∷ 2 ∷ []; used = hop 1 2 ∷ []; received = to 4 1 ∷ to 1 2 ∷ [];
       knowing = Unknown ∷ Here ∷ Behind 1 ∷ []; holding = [] ∷ (2 ∷ 1 ∷ []) ∷ (2 ∷ 1 ∷ []) ∷ []; answered = 0 } } ∷

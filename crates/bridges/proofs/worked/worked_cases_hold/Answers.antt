@@ -8,4 +8,4 @@ use Rattle.bridges.proofs.worked.worked_cases_hold.Needs as need
 
 pub returns : need.returns
 unfolding looks isIn treeOf floods without two sendBy handed arrives run copyAt lastAnswer ofFrame visits hops receivers known held after cabled laid asked replied fallen announced moved-on passed cases
-returns c = (refl, (refl, (refl, (refl, (refl, (refl, (refl, (refl, (refl, (refl, (refl, (refl, tt))))))))))))
+returns c = (refl, (refl, (refl, (refl, (refl, (refl, (refl, (refl, (refl, (refl, (refl, (refl, (refl, (refl, (refl, tt)))))))))))))))
