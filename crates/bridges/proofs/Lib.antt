@@ -3,3 +3,4 @@ pub mod Spanning
 pub mod CanRest
 pub mod MainFrom
 pub mod Premises
+pub mod Refusals

@@ -1,12 +1,13 @@
 -- What a run shows from outside: at which bridges copies of a frame were, by which links they went, who got it, and what
 -- a bridge answers to an event. Assumes nothing.
+use mathlib.Core.Path.{_≡_}
 use mathlib.Core.Bool.{Bool, true, false, cond, _&&_, _||_}
 use mathlib.Core.List.{List, [], _∷_, _++_}
 use Prim.Native.Nat.{ℕ, zero, suc}
 use lib.Dec.{eqb, ltb}
 use Rattle.trees.specs.Tree.{Tree, looks, isIn}
-use Rattle.bridges.specs.Net.{Frame, Copy, Where, Got, Rules, World, Found, NoTree, This, treeOf, with-copies}
-use Rattle.bridges.specs.Fabric.{Event, Send, Arrive, Lose, Believe, Announce, Adopt, Move, Forget, Crash, Turn, receive, run}
+use Rattle.bridges.specs.Net.{Frame, Copy, Where, Got, Rules, World, Found, NoTree, This, treeOf, without, with-copies}
+use Rattle.bridges.specs.Fabric.{Event, Send, Arrive, Lose, Believe, Announce, Adopt, Move, Forget, Crash, Turn, receive, happen, run}
 
 -- the copy at a place, or none
 unfoldable pub copyAt : ℕ → List Copy → List Copy
@@ -45,6 +46,23 @@ answer lax r w (Move s b) = 0
 answer lax r w (Forget b n s) = 0
 answer lax r w (Crash b) = 0
 answer lax r w (Turn b n s ok) = 0
+
+-- what is left after a refusal: all that was, but the copy that came
+abbrev pub refused : Event → World → World
+refused (Arrive i) w = with-copies (without i (w .copies)) w
+refused (Send s d) w = w
+refused (Lose i) w = w
+refused (Believe a b c) w = w
+refused (Announce t) w = w
+refused (Adopt b n) w = w
+refused (Move s b) w = w
+refused (Forget b n s) w = w
+refused (Crash b) w = w
+refused (Turn b n s ok) w = w
+
+-- an event that is answered by a fault changes nothing else
+abbrev pub RefusalsChangeNothing : Type 0
+RefusalsChangeNothing = (lax : Bool) (r : Rules) (e : Event) (w : World) → (answer lax r w e ≡ 0 → ⊥) → happen lax r e w ≡ refused e w
 
 -- the answer to the latest event
 unfoldable pub lastAnswer : Bool → Rules → List Event → ℕ
