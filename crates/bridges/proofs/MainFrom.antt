@@ -12,12 +12,66 @@ use Rattle.std.proofs.shelf.Ways.{tells}
 use Rattle.std.proofs.shelf.Tests.{cond-both}
 use Rattle.trees.specs.Tree.{Tree, looks, joined, isIn, different}
 use Rattle.bridges.specs.Net.{
-    Frame, Copy, Where, Unknown, Here, Behind, Got, Rules, World, Found, NoTree, This, treeOf, toward, mayGet, gets, knows, learns, handle, comes, takeIf, two, without, with-copies, at, sendBy,
-    Ev, Sends, Comes, Lost, Link, Announced, Takes, Moves, Forgets, Falls, step, world}
+  Frame,
+  Copy,
+  Where,
+  Unknown,
+  Here,
+  Behind,
+  Got,
+  Rules,
+  World,
+  Found,
+  NoTree,
+  This,
+  treeOf,
+  toward,
+  mayGet,
+  gets,
+  knows,
+  learns,
+  handle,
+  comes,
+  takeIf,
+  two,
+  without,
+  with-copies,
+  at,
+  sendBy,
+  Ev,
+  Sends,
+  Comes,
+  Lost,
+  Link,
+  Announced,
+  Takes,
+  Moves,
+  Forgets,
+  Falls,
+  step,
+  world,
+}
 use Rattle.bridges.specs.Promise as P
 use Rattle.bridges.specs.Promise.{Whole, Main, sentIn, moved, onlyComes, noneOf, countGot, NotWrong, Rests, Linked}
 use Rattle.bridges.specs.Fabric.{
-    Event, Send, Arrive, Lose, Believe, Announce, Adopt, Move, Forget, Crash, Turn, run, happen, handed, receive, arrives, adoptIf}
+  Event,
+  Send,
+  Arrive,
+  Lose,
+  Believe,
+  Announce,
+  Adopt,
+  Move,
+  Forget,
+  Crash,
+  Turn,
+  run,
+  happen,
+  handed,
+  receive,
+  arrives,
+  adoptIf,
+}
 use Rattle.bridges.specs.Guarantee as G
 use Rattle.bridges.specs.Guarantee.{Assured, Guaranteed, sentBy, makes, countAll, stays, moves, remembered, quietly, quiet, origin}
 
@@ -43,8 +97,16 @@ gets-so r w x k (suc s) = ap (λ (gs : List Got). cond (mayGet r w x k s) (recor
 handle-so : (r : Rules) (x : Copy) (f : Found) (w : World) → handle r x f w ≡ receive true r x f w
 handle-so r x NoTree w = refl
 handle-so r x (This t) w = λ i. cond (isIn (x .frame .tree) (w .holds (x .at)))
-    (record { home = w .home; up = w .up; trees = w .trees; holds = w .holds; learned = learns x (w .learned);
-      copies = toward t (w .up) x (knows w x) (r .bridges) ++ w .copies; got = gets-so r w x (knows w x) (r .stations) i ++ w .got; next = w .next }) w
+    (record {
+      home = w .home;
+      up = w .up;
+      trees = w .trees;
+      holds = w .holds;
+      learned = learns x (w .learned);
+      copies = toward t (w .up) x (knows w x) (r .bridges) ++ w .copies;
+      got = gets-so r w x (knows w x) (r .stations) i ++ w .got;
+      next = w .next;
+    }) w
 
 comes-so : (r : Rules) (i : ℕ) (xs : List Copy) (w : World) → comes r i xs w ≡ arrives true r i xs w
 unfolding comes arrives
@@ -59,8 +121,15 @@ or-no false = refl
 takes-so : (r : Rules) (b n : ℕ) (f : Found) (w : World) → takeIf r b n f w ≡ adoptIf true r b n f w
 takes-so r b n NoTree w = refl
 takes-so r b n (This t) w = λ i. cond (or-no (not (looks (r .bridges) t)) i) w (record {
-    home = w .home; up = w .up; trees = w .trees; holds = at b (two (n ∷ w .holds b)) (w .holds); learned = w .learned;
-    copies = w .copies; got = w .got; next = w .next })
+  home = w .home;
+  up = w .up;
+  trees = w .trees;
+  holds = at b (two (n ∷ w .holds b)) (w .holds);
+  learned = w .learned;
+  copies = w .copies;
+  got = w .got;
+  next = w .next;
+})
 
 -- a run of Net is one of Fabric
 same : (r : Rules) (es : List Ev) → world r es ≡ run true r (translated es)
@@ -199,8 +268,8 @@ module _ (r : Rules) (es : List Ev) (g : Assured true r (translated es)) where
   unfolding translated
   learnt-right later before t split new out s b hs hb still =
       subst (λ (w : World). NotWrong r w t b s (w .learned b (t .number) s)) (sym (same r es))
-        (g .learnt-right (translated later) (translated before) t (ap translated split ∙ translated-append later (Announced t ∷ before))
-          (subst (λ (w : World). treeOf (t .number) (w .trees) ≡ NoTree) (same r before) new) out s b hs hb (stays-so s later still))
+      (g .learnt-right (translated later) (translated before) t (ap translated split ∙ translated-append later (Announced t ∷ before))
+      (subst (λ (w : World). treeOf (t .number) (w .trees) ≡ NoTree) (same r before) new) out s b hs hb (stays-so s later still))
 
   arrives-so : (t : Tree) → looks (r .bridges) t ≡ true → Rests r (world r es) t → (s d : ℕ) → s < r .stations → d < r .stations → (s ≡ d → ⊥) → r .colour s ≡ r .colour d → world r es .home s < r .bridges → world r es .home d < r .bridges →
       ((b : ℕ) → b < r .bridges → NotWrong r (world r es) t b d (world r es .learned b (t .number) d)) → noneOf (world r es .next) (world r es .copies) ≡ true →
@@ -209,27 +278,32 @@ module _ (r : Rules) (es : List Ev) (g : Assured true r (translated es)) where
       (countGot (world r es .next) d (world r es .home d) (world r (fs ++ (Sends s d ∷ es)) .got) ≡ 1) ×
       (((b : ℕ) → b < r .bridges → world r es .learned b (t .number) d ≡ Unknown → ⊥) → (q b : ℕ) → (q ≡ d → ⊥) → countGot (world r es .next) q b (world r (fs ++ (Sends s d ∷ es)) .got) ≡ 0)
   unfolding translated
-  arrives-so t l rest s d hs hd ne col home-s home-d right none silent fs only left =
-      ((λ i. countGot (e i .next) d (e i .home d) (u i .got)) ∙ done .0,
-        λ all q b nq. (λ i. countGot (e i .next) q b (u i .got)) ∙ nobody q b
-          (done .2 (λ c h k. all c h (ap (λ (w : World). w .learned c (t .number) d) e ∙ k)) (remembered-so (t .number) d fs only) q nq))
+  arrives-so t l rest s d hs hd ne col home-s home-d right none silent fs only left = (
+    (λ i. countGot (e i .next) d (e i .home d) (u i .got)) ∙ done .0,
+    λ all q b nq. (λ i. countGot (e i .next) q b (u i .got)) ∙ nobody q b
+        (done .2 (λ c h k. all c h (ap (λ (w : World). w .learned c (t .number) d) e ∙ k)) (remembered-so (t .number) d fs only) q nq),
+  )
     where
       v : World
       v = run true r (translated es)
+
       e : world r es ≡ v
       e = same r es
+
       u : world r (fs ++ (Sends s d ∷ es)) ≡ run true r (translated fs ++ (Send s d ∷ translated es))
       u = same-after r fs (Sends s d ∷ es)
+
       done : (countGot (v .next) d (v .home d) (run true r (translated fs ++ (Send s d ∷ translated es)) .got) ≡ 1) ×
           (countAll (v .next) d (run true r (translated fs ++ (Send s d ∷ translated es)) .got) ≡ 1) ×
           (((b : ℕ) → b < r .bridges → v .learned b (t .number) d ≡ Unknown → ⊥) → remembered (t .number) d (translated fs) ≡ true →
-            (q : ℕ) → (q ≡ d → ⊥) → countAll (v .next) q (run true r (translated fs ++ (Send s d ∷ translated es)) .got) ≡ 0)
+          (q : ℕ) → (q ≡ d → ⊥) → countAll (v .next) q (run true r (translated fs ++ (Send s d ∷ translated es)) .got) ≡ 0)
       done = g .arrives t l (subst (λ (w : World). Rests r w t) e rest) s d hs hd ne col
           (subst (λ (w : World). w .home s < r .bridges) e home-s) (subst (λ (w : World). w .home d < r .bridges) e home-d)
           (λ b h. subst (λ (w : World). NotWrong r w t b d (w .learned b (t .number) d)) e (right b h))
           (λ x m from on. absurd (silent x (subst (λ (w : World). List·Memᴰ x (w .copies)) (sym e) m) from))
           (translated fs) (quiet-so r t (v .next) d (Send s d ∷ translated es) fs only)
           ((λ i. noneOf (sym e i .next) (sym u i .copies)) ∙ left)
+
       nobody : (q b : ℕ) → countAll (v .next) q (run true r (translated fs ++ (Send s d ∷ translated es)) .got) ≡ 0 →
           countGot (v .next) q b (run true r (translated fs ++ (Send s d ∷ translated es)) .got) ≡ 0
       nobody q b z = omega (arith, count-within (v .next) q b (run true r (translated fs ++ (Send s d ∷ translated es)) .got))
@@ -239,22 +313,30 @@ module _ (r : Rules) (es : List Ev) (g : Assured true r (translated es)) where
 
   rest-so : 0 < r .bridges → ((b : ℕ) → b < r .bridges → Linked r (world r es) b) →
       (fs : List Ev) × T (P.onlyTrees fs) × (length fs ≤ suc (r .bridges)) × (t : Tree) × (looks (r .bridges) t ≡ true) × Rests r (world r (fs ++ es)) t
-  rest-so some all = (back (z .0), k .trees-only, (let h : length (z .0) ≤ suc (r .bridges) = z .2 in omega (arith, k .length-so)), z .3, z .4,
-      subst (λ (w : World). Rests r w (z .3)) (sym (same-after r (back (z .0)) es ∙ ap (λ (fs : List Event). run true r (fs ++ translated es)) (k .there-so))) (z .5))
+  rest-so some all = (
+    back (z .0),
+    k .trees-only,
+    (let h : length (z .0) ≤ suc (r .bridges) = z .2 in omega (arith, k .length-so)),
+    z .3,
+    z .4,
+    subst (λ (w : World). Rests r w (z .3)) (sym (same-after r (back (z .0)) es ∙ ap (λ (fs : List Event). run true r (fs ++ translated es)) (k .there-so))) (z .5),
+  )
     where
       z : (fs : List Event) × T (G.onlyTrees fs) × (length fs ≤ suc (r .bridges)) × (t : Tree) × (looks (r .bridges) t ≡ true) × Rests r (run true r (fs ++ translated es)) t
       z = g .can-rest some (λ b h. linked-so _ _ (same r es) (all b h))
+
       k : Back (z .0)
       k = back-so (z .0) (z .1)
 
 pub main-from : Guaranteed → Main
 main-from g r es = record {
-    no-round = λ x m. a .no-round x (subst (λ (w : World). List·Memᴰ x (w .copies)) (same r es) m);
-    not-twice = λ f s b. subst (λ (w : World). countGot f s b (w .got) ≤ 1) (sym (same r es)) (a .not-twice f s b);
-    right-colour = right-colour r es a;
-    learnt-right = learnt-right r es a;
-    arrives = arrives-so r es a;
-    can-rest = rest-so r es a }
+  no-round = λ x m. a .no-round x (subst (λ (w : World). List·Memᴰ x (w .copies)) (same r es) m);
+  not-twice = λ f s b. subst (λ (w : World). countGot f s b (w .got) ≤ 1) (sym (same r es)) (a .not-twice f s b);
+  right-colour = right-colour r es a;
+  learnt-right = learnt-right r es a;
+  arrives = arrives-so r es a;
+  can-rest = rest-so r es a;
+}
   where
     a : Assured true r (translated es)
     a = g true r (translated es)

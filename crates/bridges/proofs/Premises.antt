@@ -10,7 +10,24 @@ use Rattle.std.proofs.shelf.Ways.{tells}
 use Rattle.std.proofs.shelf.Tests.{false≢true, eq-eqb, eqb-true}
 use Rattle.trees.specs.Tree.{Tree, looks, joined, isIn}
 use Rattle.bridges.specs.Net.{
-    Frame, Copy, Where, Unknown, Here, Behind, Got, Rules, World, Found, NoTree, This, treeOf, floods, without, two, sendBy}
+  Frame,
+  Copy,
+  Where,
+  Unknown,
+  Here,
+  Behind,
+  Got,
+  Rules,
+  World,
+  Found,
+  NoTree,
+  This,
+  treeOf,
+  floods,
+  without,
+  two,
+  sendBy,
+}
 use Rattle.bridges.specs.Promise.{NotWrong, Rests, Linked, zeroth, over, onWay, topWay, countGot, noneOf}
 use Rattle.bridges.specs.Fabric.{Event, Send, Arrive, Lose, Believe, Announce, Adopt, Move, Forget, Crash, Turn, run, handed, arrives}
 use Rattle.bridges.specs.Guarantee.{Assured, countAll, stays, remembered, isCopyOf, quietly, origin}
@@ -26,7 +43,7 @@ arrives-if lax r es t s d fs a p = (z .1, λ q nq. z .2 (p .all-know) (p .none-f
     z : (countGot (run lax r es .next) d (run lax r es .home d) (run lax r (fs ++ (Send s d ∷ es)) .got) ≡ 1) ×
         (countAll (run lax r es .next) d (run lax r (fs ++ (Send s d ∷ es)) .got) ≡ 1) ×
         (((b : ℕ) → b < r .bridges → run lax r es .learned b (t .number) d ≡ Unknown → ⊥) → remembered (t .number) d fs ≡ true →
-          (q : ℕ) → (q ≡ d → ⊥) → countAll (run lax r es .next) q (run lax r (fs ++ (Send s d ∷ es)) .got) ≡ 0)
+        (q : ℕ) → (q ≡ d → ⊥) → countAll (run lax r es .next) q (run lax r (fs ++ (Send s d ∷ es)) .got) ≡ 0)
     z = a .arrives t (p .is-tree) (p .at-rest) s d (p .sender) (p .receiver) (p .apart) (p .one-vlan) (p .sender-home) (p .receiver-home)
         (p .right) (p .under-way) fs (p .quiet-so) (p .all-came)
 
@@ -90,21 +107,47 @@ three-links P a b c d e f g h i =
 computed : (lax : Bool) → Computed lax
 unfolding looks isIn treeOf floods without two sendBy handed arrives run after cabled settled before-send meanwhile quietly isCopyOf noneOf each origin
 computed true = record {
-    there = refl; newest = below3 _ ([], refl) ([], refl) ([], refl);
-    links = three-links _ (λ _. refl) (λ _. refl) (λ _. refl) (λ _. refl) (λ _. refl) (λ _. refl) (λ e. no-way e) (λ e. no-way e) (λ e. no-way e);
-    home-0 = refl; home-1 = refl; learned-0 = refl; learned-1 = refl; learned-2 = refl; all-began = refl; quiet-so = refl; all-came = refl; new = refl; learnt = refl }
+  there = refl;
+  newest = below3 _ ([], refl) ([], refl) ([], refl);
+  links = three-links _ (λ _. refl) (λ _. refl) (λ _. refl) (λ _. refl) (λ _. refl) (λ _. refl) (λ e. no-way e) (λ e. no-way e) (λ e. no-way e);
+  home-0 = refl;
+  home-1 = refl;
+  learned-0 = refl;
+  learned-1 = refl;
+  learned-2 = refl;
+  all-began = refl;
+  quiet-so = refl;
+  all-came = refl;
+  new = refl;
+  learnt = refl;
+}
 computed false = record {
-    there = refl; newest = below3 _ ([], refl) ([], refl) ([], refl);
-    links = three-links _ (λ _. refl) (λ _. refl) (λ _. refl) (λ _. refl) (λ _. refl) (λ _. refl) (λ e. no-way e) (λ e. no-way e) (λ e. no-way e);
-    home-0 = refl; home-1 = refl; learned-0 = refl; learned-1 = refl; learned-2 = refl; all-began = refl; quiet-so = refl; all-came = refl; new = refl; learnt = refl }
+  there = refl;
+  newest = below3 _ ([], refl) ([], refl) ([], refl);
+  links = three-links _ (λ _. refl) (λ _. refl) (λ _. refl) (λ _. refl) (λ _. refl) (λ _. refl) (λ e. no-way e) (λ e. no-way e) (λ e. no-way e);
+  home-0 = refl;
+  home-1 = refl;
+  learned-0 = refl;
+  learned-1 = refl;
+  learned-2 = refl;
+  all-began = refl;
+  quiet-so = refl;
+  all-came = refl;
+  new = refl;
+  learnt = refl;
+}
 
 module _ (lax : Bool) (k : Computed lax) where
   rests : Rests ring (run lax ring before-send) treeOf0
   unfolding isIn topWay
   rests = record {
-      there = k .there; newest = k .newest; links = λ b c h g. k .links b h c g;
-      inside = λ b. (λ h. grind (arith, tells), λ h. grind (arith, tells));
-      top = 0; together = below3 _ refl refl refl }
+    there = k .there;
+    newest = k .newest;
+    links = λ b c h g. k .links b h c g;
+    inside = λ b. (λ h. grind (arith, tells), λ h. grind (arith, tells));
+    top = 0;
+    together = below3 _ refl refl refl;
+  }
 
   right : (b : ℕ) → b < 3 → NotWrong ring (run lax ring before-send) treeOf0 b 0 (run lax ring before-send .learned b 1 0)
   unfolding isIn topWay
@@ -117,18 +160,32 @@ module _ (lax : Bool) (k : Computed lax) where
   met-arrives : ArrivesIf lax ring before-send treeOf0 1 0 meanwhile
   unfolding looks remembered meanwhile after
   met-arrives = record {
-      is-tree = refl; at-rest = rests; sender = omega arith; receiver = omega arith; apart = omega arith; one-vlan = refl;
-      sender-home = omega (arith, k .home-1); receiver-home = omega (arith, k .home-0);
-      right = right;
-      under-way = λ x m f t. began x (each-so beganAt1 (run lax ring before-send .copies) x (k .all-began) m) f t ∙ sym (k .home-0);
-      quiet-so = k .quiet-so; all-came = k .all-came;
-      all-know = below3 _ (λ e. known-behind _ 1 (k .learned-0) e) (λ e. known-here _ (k .learned-1) e) (λ e. known-behind _ 0 (k .learned-2) e);
-      none-forgets = refl }
+    is-tree = refl;
+    at-rest = rests;
+    sender = omega arith;
+    receiver = omega arith;
+    apart = omega arith;
+    one-vlan = refl;
+    sender-home = omega (arith, k .home-1);
+    receiver-home = omega (arith, k .home-0);
+    right = right;
+    under-way = λ x m f t. began x (each-so beganAt1 (run lax ring before-send .copies) x (k .all-began) m) f t ∙ sym (k .home-0);
+    quiet-so = k .quiet-so;
+    all-came = k .all-came;
+    all-know = below3 _ (λ e. known-behind _ 1 (k .learned-0) e) (λ e. known-here _ (k .learned-1) e) (λ e. known-behind _ 0 (k .learned-2) e);
+    none-forgets = refl;
+  }
 
   met-learnt : LearntIf lax ring (meanwhile ++ (Send 1 0 ∷ before-send)) (meanwhile ++ (Send 1 0 ∷ settled)) cabled treeOf0 0 2
   unfolding stays meanwhile settled before-send after
   met-learnt = record {
-      since = refl; new = k .new; outside = λ c h. grind (arith, tells); station-there = omega arith; bridge-there = omega arith; still = refl }
+    since = refl;
+    new = k .new;
+    outside = λ c h. grind (arith, tells);
+    station-there = omega arith;
+    bridge-there = omega arith;
+    still = refl;
+  }
 
   met-linked : (b : ℕ) → b < 3 → Linked ring (run lax ring before-send) b
   met-linked = below3 _ zeroth (from-0 1 (omega arith) refl refl) (from-0 2 (omega arith) refl refl)

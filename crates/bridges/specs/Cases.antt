@@ -103,65 +103,215 @@ passed = after moved-on (Send 0 2 ∷ Arrive 0 ∷ Arrive 0 ∷ Lose 0 ∷ [])
 unfoldable pub cases : List Row
 cases =
     -- A. the frame goes from 1 by 0 to 2; the link between 1 and 2 isn't used
-    record { letter = 1; events = asked; look = record { frame = 1; tree = 1; station = 0 }; expected = record {
-      visited = 1 ∷ 0 ∷ 2 ∷ []; used = hop 1 0 ∷ hop 0 2 ∷ []; received = to 4 1 ∷ to 2 0 ∷ to 1 2 ∷ [];
-      knowing = Behind 1 ∷ Here ∷ Behind 0 ∷ []; holding = (1 ∷ []) ∷ (1 ∷ []) ∷ (1 ∷ []) ∷ []; answered = 0 } } ∷
+    record {
+      letter = 1;
+      events = asked;
+      look = record { frame = 1; tree = 1; station = 0 };
+      expected = record {
+        visited = 1 ∷ 0 ∷ 2 ∷ [];
+        used = hop 1 0 ∷ hop 0 2 ∷ [];
+        received = to 4 1 ∷ to 2 0 ∷ to 1 2 ∷ [];
+        knowing = Behind 1 ∷ Here ∷ Behind 0 ∷ [];
+        holding = (1 ∷ []) ∷ (1 ∷ []) ∷ (1 ∷ []) ∷ [];
+        answered = 0;
+      };
+    } ∷
     -- B. the reply goes back the same way, and to nobody else
-    record { letter = 2; events = replied; look = record { frame = 2; tree = 1; station = 0 }; expected = record {
-      visited = 2 ∷ 0 ∷ 1 ∷ []; used = hop 2 0 ∷ hop 0 1 ∷ []; received = to 0 1 ∷ [];
-      knowing = Behind 1 ∷ Here ∷ Behind 0 ∷ []; holding = (1 ∷ []) ∷ (1 ∷ []) ∷ (1 ∷ []) ∷ []; answered = 0 } } ∷
+    record {
+      letter = 2;
+      events = replied;
+      look = record { frame = 2; tree = 1; station = 0 };
+      expected = record {
+        visited = 2 ∷ 0 ∷ 1 ∷ [];
+        used = hop 2 0 ∷ hop 0 1 ∷ [];
+        received = to 0 1 ∷ [];
+        knowing = Behind 1 ∷ Here ∷ Behind 0 ∷ [];
+        holding = (1 ∷ []) ∷ (1 ∷ []) ∷ (1 ∷ []) ∷ [];
+        answered = 0;
+      };
+    } ∷
     -- C. once 0 has fallen a frame along its tree comes no further than 0
-    record { letter = 3; events = after fallen (Send 0 1 ∷ Arrive 0 ∷ Arrive 0 ∷ []); look = record { frame = 3; tree = 1; station = 1 }; expected = record {
-      visited = 1 ∷ 0 ∷ []; used = hop 1 0 ∷ []; received = [];
-      knowing = Unknown ∷ Behind 0 ∷ Here ∷ []; holding = [] ∷ (1 ∷ []) ∷ (1 ∷ []) ∷ []; answered = 3 } } ∷
-    -- nor even to 0 once its link is down, known
-    record { letter = 3; events = after fallen (Believe 1 0 false ∷ Send 0 1 ∷ Arrive 0 ∷ []); look = record { frame = 3; tree = 1; station = 1 }; expected = record {
-      visited = 1 ∷ []; used = []; received = [];
-      knowing = Unknown ∷ Behind 0 ∷ Here ∷ []; holding = [] ∷ (1 ∷ []) ∷ (1 ∷ []) ∷ []; answered = 0 } } ∷
-    -- or not known where to
-    record { letter = 3; events = after fallen (Believe 1 0 false ∷ Send 0 2 ∷ Arrive 0 ∷ []); look = record { frame = 3; tree = 1; station = 2 }; expected = record {
-      visited = 1 ∷ []; used = []; received = to 4 1 ∷ [];
-      knowing = Unknown ∷ Unknown ∷ Unknown ∷ []; holding = [] ∷ (1 ∷ []) ∷ (1 ∷ []) ∷ []; answered = 0 } } ∷
-    -- and the stations of 0 can't send
-    record { letter = 3; events = after fallen (Send 2 1 ∷ []); look = record { frame = 3; tree = 1; station = 1 }; expected = record {
-      visited = []; used = []; received = [];
-      knowing = Unknown ∷ Behind 0 ∷ Here ∷ []; holding = [] ∷ (1 ∷ []) ∷ (1 ∷ []) ∷ []; answered = 3 } } ∷
+    record {
+      letter = 3;
+      events = after fallen (Send 0 1 ∷ Arrive 0 ∷ Arrive 0 ∷ []);
+      look = record { frame = 3; tree = 1; station = 1 };
+      expected = record {
+        visited = 1 ∷ 0 ∷ [];
+        used = hop 1 0 ∷ [];
+        received = [];
+        knowing = Unknown ∷ Behind 0 ∷ Here ∷ [];
+        holding = [] ∷ (1 ∷ []) ∷ (1 ∷ []) ∷ [];
+        answered = 3;
+      };
+    } ∷
+    -- and not even there once bridge 1 believes the link down: neither a frame to a station behind 0
+    record {
+      letter = 3;
+      events = after fallen (Believe 1 0 false ∷ Send 0 1 ∷ Arrive 0 ∷ []);
+      look = record { frame = 3; tree = 1; station = 1 };
+      expected = record {
+        visited = 1 ∷ [];
+        used = [];
+        received = [];
+        knowing = Unknown ∷ Behind 0 ∷ Here ∷ [];
+        holding = [] ∷ (1 ∷ []) ∷ (1 ∷ []) ∷ [];
+        answered = 0;
+      };
+    } ∷
+    -- nor one to a station that it doesn't know;
+    record {
+      letter = 3;
+      events = after fallen (Believe 1 0 false ∷ Send 0 2 ∷ Arrive 0 ∷ []);
+      look = record { frame = 3; tree = 1; station = 2 };
+      expected = record {
+        visited = 1 ∷ [];
+        used = [];
+        received = to 4 1 ∷ [];
+        knowing = Unknown ∷ Unknown ∷ Unknown ∷ [];
+        holding = [] ∷ (1 ∷ []) ∷ (1 ∷ []) ∷ [];
+        answered = 0;
+      };
+    } ∷
+    -- and a station at 0 sends nothing
+    record {
+      letter = 3;
+      events = after fallen (Send 2 1 ∷ []);
+      look = record { frame = 3; tree = 1; station = 1 };
+      expected = record {
+        visited = [];
+        used = [];
+        received = [];
+        knowing = Unknown ∷ Behind 0 ∷ Here ∷ [];
+        holding = [] ∷ (1 ∷ []) ∷ (1 ∷ []) ∷ [];
+        answered = 3;
+      };
+    } ∷
     -- along the tree of 1 the link between 1 and 2 is used
-    record { letter = 3; events = after announced (Adopt 2 2 ∷ Send 0 1 ∷ Arrive 0 ∷ Arrive 0 ∷ []); look = record { frame = 3; tree = 2; station = 0 }; expected = record {
-      visited = 1 ∷ 2 ∷ []; used = hop 1 2 ∷ []; received = to 4 1 ∷ to 1 2 ∷ [];
-      knowing = Unknown ∷ Here ∷ Behind 1 ∷ []; holding = [] ∷ (2 ∷ 1 ∷ []) ∷ (2 ∷ 1 ∷ []) ∷ []; answered = 0 } } ∷
+    record {
+      letter = 3;
+      events = after announced (Adopt 2 2 ∷ Send 0 1 ∷ Arrive 0 ∷ Arrive 0 ∷ []);
+      look = record { frame = 3; tree = 2; station = 0 };
+      expected = record {
+        visited = 1 ∷ 2 ∷ [];
+        used = hop 1 2 ∷ [];
+        received = to 4 1 ∷ to 1 2 ∷ [];
+        knowing = Unknown ∷ Here ∷ Behind 1 ∷ [];
+        holding = [] ∷ (2 ∷ 1 ∷ []) ∷ (2 ∷ 1 ∷ []) ∷ [];
+        answered = 0;
+      };
+    } ∷
     -- D. a bridge that has the old tree only drops a frame along the new one
-    record { letter = 4; events = after announced (Send 0 1 ∷ Arrive 0 ∷ Arrive 0 ∷ []); look = record { frame = 3; tree = 2; station = 0 }; expected = record {
-      visited = 1 ∷ 2 ∷ []; used = hop 1 2 ∷ []; received = to 4 1 ∷ [];
-      knowing = Unknown ∷ Here ∷ Unknown ∷ []; holding = [] ∷ (2 ∷ 1 ∷ []) ∷ (1 ∷ []) ∷ []; answered = 4 } } ∷
+    record {
+      letter = 4;
+      events = after announced (Send 0 1 ∷ Arrive 0 ∷ Arrive 0 ∷ []);
+      look = record { frame = 3; tree = 2; station = 0 };
+      expected = record {
+        visited = 1 ∷ 2 ∷ [];
+        used = hop 1 2 ∷ [];
+        received = to 4 1 ∷ [];
+        knowing = Unknown ∷ Here ∷ Unknown ∷ [];
+        holding = [] ∷ (2 ∷ 1 ∷ []) ∷ (1 ∷ []) ∷ [];
+        answered = 4;
+      };
+    } ∷
     -- E. after a station moved from 1 to 2, bridge 0 sends frames to it towards 1
-    record { letter = 5; events = after moved-on (Send 2 0 ∷ Arrive 0 ∷ Arrive 0 ∷ []); look = record { frame = 3; tree = 1; station = 0 }; expected = record {
-      visited = 0 ∷ 1 ∷ []; used = hop 0 1 ∷ []; received = [];
-      knowing = Behind 1 ∷ Here ∷ Behind 0 ∷ []; holding = (1 ∷ []) ∷ (1 ∷ []) ∷ (1 ∷ []) ∷ []; answered = 0 } } ∷
+    record {
+      letter = 5;
+      events = after moved-on (Send 2 0 ∷ Arrive 0 ∷ Arrive 0 ∷ []);
+      look = record { frame = 3; tree = 1; station = 0 };
+      expected = record {
+        visited = 0 ∷ 1 ∷ [];
+        used = hop 0 1 ∷ [];
+        received = [];
+        knowing = Behind 1 ∷ Here ∷ Behind 0 ∷ [];
+        holding = (1 ∷ []) ∷ (1 ∷ []) ∷ (1 ∷ []) ∷ [];
+        answered = 0;
+      };
+    } ∷
     -- until one of its frames has passed bridge 0,
-    record { letter = 5; events = after passed (Send 2 0 ∷ Arrive 0 ∷ Arrive 0 ∷ []); look = record { frame = 4; tree = 1; station = 0 }; expected = record {
-      visited = 0 ∷ 2 ∷ []; used = hop 0 2 ∷ []; received = to 0 2 ∷ [];
-      knowing = Behind 2 ∷ Here ∷ Here ∷ []; holding = (1 ∷ []) ∷ (1 ∷ []) ∷ (1 ∷ []) ∷ []; answered = 0 } } ∷
+    record {
+      letter = 5;
+      events = after passed (Send 2 0 ∷ Arrive 0 ∷ Arrive 0 ∷ []);
+      look = record { frame = 4; tree = 1; station = 0 };
+      expected = record {
+        visited = 0 ∷ 2 ∷ [];
+        used = hop 0 2 ∷ [];
+        received = to 0 2 ∷ [];
+        knowing = Behind 2 ∷ Here ∷ Here ∷ [];
+        holding = (1 ∷ []) ∷ (1 ∷ []) ∷ (1 ∷ []) ∷ [];
+        answered = 0;
+      };
+    } ∷
     -- while bridge 1, which none has passed, still has it here;
-    record { letter = 5; events = after passed (Send 4 0 ∷ Arrive 0 ∷ []); look = record { frame = 4; tree = 1; station = 0 }; expected = record {
-      visited = 1 ∷ []; used = []; received = [];
-      knowing = Behind 2 ∷ Here ∷ Here ∷ []; holding = (1 ∷ []) ∷ (1 ∷ []) ∷ (1 ∷ []) ∷ []; answered = 0 } } ∷
+    record {
+      letter = 5;
+      events = after passed (Send 4 0 ∷ Arrive 0 ∷ []);
+      look = record { frame = 4; tree = 1; station = 0 };
+      expected = record {
+        visited = 1 ∷ [];
+        used = [];
+        received = [];
+        knowing = Behind 2 ∷ Here ∷ Here ∷ [];
+        holding = (1 ∷ []) ∷ (1 ∷ []) ∷ (1 ∷ []) ∷ [];
+        answered = 0;
+      };
+    } ∷
     -- or until it is forgotten
-    record { letter = 5; events = after moved-on (Forget 0 1 0 ∷ Forget 2 1 0 ∷ Send 2 0 ∷ Arrive 0 ∷ Arrive 0 ∷ Arrive 0 ∷ []); look = record { frame = 3; tree = 1; station = 0 }; expected = record {
-      visited = 0 ∷ 2 ∷ 1 ∷ []; used = hop 0 2 ∷ hop 0 1 ∷ []; received = to 0 2 ∷ to 1 2 ∷ [];
-      knowing = Unknown ∷ Here ∷ Unknown ∷ []; holding = (1 ∷ []) ∷ (1 ∷ []) ∷ (1 ∷ []) ∷ []; answered = 0 } } ∷
+    record {
+      letter = 5;
+      events = after moved-on (Forget 0 1 0 ∷ Forget 2 1 0 ∷ Send 2 0 ∷ Arrive 0 ∷ Arrive 0 ∷ Arrive 0 ∷ []);
+      look = record { frame = 3; tree = 1; station = 0 };
+      expected = record {
+        visited = 0 ∷ 2 ∷ 1 ∷ [];
+        used = hop 0 2 ∷ hop 0 1 ∷ [];
+        received = to 0 2 ∷ to 1 2 ∷ [];
+        knowing = Unknown ∷ Here ∷ Unknown ∷ [];
+        holding = (1 ∷ []) ∷ (1 ∷ []) ∷ (1 ∷ []) ∷ [];
+        answered = 0;
+      };
+    } ∷
     -- F. what isn't a tree isn't adopted
-    record { letter = 6; events = after laid (Announce noTree ∷ Adopt 1 3 ∷ []); look = record { frame = 1; tree = 3; station = 0 }; expected = record {
-      visited = []; used = []; received = [];
-      knowing = Unknown ∷ Unknown ∷ Unknown ∷ []; holding = (1 ∷ []) ∷ (1 ∷ []) ∷ (1 ∷ []) ∷ []; answered = 5 } } ∷
+    record {
+      letter = 6;
+      events = after laid (Announce noTree ∷ Adopt 1 3 ∷ []);
+      look = record { frame = 1; tree = 3; station = 0 };
+      expected = record {
+        visited = [];
+        used = [];
+        received = [];
+        knowing = Unknown ∷ Unknown ∷ Unknown ∷ [];
+        holding = (1 ∷ []) ∷ (1 ∷ []) ∷ (1 ∷ []) ∷ [];
+        answered = 5;
+      };
+    } ∷
     -- G. station 3, of another VLAN, isn't handed the frame of station 0 at its own bridge, neither while it is unknown
-    record { letter = 7; events = after laid (Send 0 3 ∷ Arrive 0 ∷ []); look = record { frame = 1; tree = 1; station = 3 }; expected = record {
-      visited = 1 ∷ []; used = hop 1 0 ∷ []; received = to 4 1 ∷ [];
-      knowing = Unknown ∷ Unknown ∷ Unknown ∷ []; holding = (1 ∷ []) ∷ (1 ∷ []) ∷ (1 ∷ []) ∷ []; answered = 0 } } ∷
+    record {
+      letter = 7;
+      events = after laid (Send 0 3 ∷ Arrive 0 ∷ []);
+      look = record { frame = 1; tree = 1; station = 3 };
+      expected = record {
+        visited = 1 ∷ [];
+        used = hop 1 0 ∷ [];
+        received = to 4 1 ∷ [];
+        knowing = Unknown ∷ Unknown ∷ Unknown ∷ [];
+        holding = (1 ∷ []) ∷ (1 ∷ []) ∷ (1 ∷ []) ∷ [];
+        answered = 0;
+      };
+    } ∷
     -- nor when it is known to be there
-    record { letter = 7; events = after laid (Send 3 1 ∷ Arrive 0 ∷ Lose 0 ∷ Send 0 3 ∷ Arrive 0 ∷ []); look = record { frame = 2; tree = 1; station = 3 }; expected = record {
-      visited = 1 ∷ []; used = []; received = [];
-      knowing = Unknown ∷ Here ∷ Unknown ∷ []; holding = (1 ∷ []) ∷ (1 ∷ []) ∷ (1 ∷ []) ∷ []; answered = 0 } } ∷ []
+    record {
+      letter = 7;
+      events = after laid (Send 3 1 ∷ Arrive 0 ∷ Lose 0 ∷ Send 0 3 ∷ Arrive 0 ∷ []);
+      look = record { frame = 2; tree = 1; station = 3 };
+      expected = record {
+        visited = 1 ∷ [];
+        used = [];
+        received = [];
+        knowing = Unknown ∷ Here ∷ Unknown ∷ [];
+        holding = (1 ∷ []) ∷ (1 ∷ []) ∷ (1 ∷ []) ∷ [];
+        answered = 0;
+      };
+    } ∷ []
 
 abbrev pub Hold : List Row → Type 0
 Hold [] = Unit {0}

@@ -5,8 +5,8 @@ mod worked;
 
 pub use given::main_follows;
 pub use witness::premises_can_hold;
-pub use worked::{refusals_change_nothing, worked_cases_hold};
-
+pub use worked::refusals_change_nothing;
+pub use worked::worked_cases_hold;
 ghost use mathlib.Core.Path.{_≡_};
 
 // The most stations that one bridge learns along one tree.
