@@ -1,3 +1,5 @@
 pub mod Dropped
 pub mod Changes
 pub mod Keeps
+pub mod NoRound
+pub mod Vlan
