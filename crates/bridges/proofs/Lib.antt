@@ -4,3 +4,7 @@ pub mod CanRest
 pub mod MainFrom
 pub mod Premises
 pub mod Refusals
+pub mod Changes
+pub mod Keeps
+pub mod NoRound
+pub mod Vlan
