@@ -1,1 +1,10 @@
 pub mod Dropped
+pub mod Spanning
+pub mod CanRest
+pub mod MainFrom
+pub mod Premises
+pub mod Refusals
+pub mod Changes
+pub mod Keeps
+pub mod NoRound
+pub mod Vlan

@@ -1,0 +1,98 @@
+-- What each kind of event does, by cases: one lemma for each place where an event looks something up. Assumes nothing.
+use mathlib.Core.Path.{_≡_, refl, sym, subst, ap, _∙_}
+use mathlib.Core.Bool.{Bool, true, false, cond, _&&_, _||_, not}
+use mathlib.Core.Logic.{_⊎_, inl, inr}
+use mathlib.Core.List.{List, [], _∷_, _++_, List·Memᴰ, List·Memᴰ·head, List·Memᴰ·tail, List·Memᴰ·cases-cons, List·Memᴰ·not-nil, List·Memᴰ·append-cases, Memᴰ·append-left, Memᴰ·append-right}
+use Prim.Native.Nat.{ℕ, zero, suc, _+_, _<_, _≤_}
+use native.Mathlib.Omega.{arith}
+use native.Mathlib.Decide.{ℕ-discrete, decLt}
+use lib.Dec.{eqb, ltb, leb}
+use borrow.Author.Tests.{eqb-true, eqb-false, eq-eqb, ne-eqb, lt-ltb, le-ltb, ltb-true, ltb-false, both-ways}
+use Rattle.std.proofs.shelf.Ways.{tells}
+use Rattle.trees.specs.Tree.{Tree, looks, joined, Walk, here, first, on, isIn, different, allBelow}
+use Rattle.bridges.specs.Net.{Frame, Copy, Where, Unknown, Here, Behind, Got, Rules, World, Found, NoTree, This, at, at2, at3, treeOf, cameBy, notBack, copyTo, floods, toward, mayGet, knows, learns, without, with-copies, two, sendBy, announceIf, start}
+use Rattle.bridges.specs.Fabric.{Event, Send, Arrive, Lose, Believe, Announce, Adopt, Move, Forget, Crash, Turn, goesBy, mayHand, handed, forward, receive, arrives, isNewest, adoptIf, turned, happen, run}
+
+pub cond-by : {A : Type 0} (b : Bool) (P : A → Type 0) (x y : A) → (b ≡ true → P x) → (b ≡ false → P y) → P (cond b x y)
+cond-by true P x y f g = f refl
+cond-by false P x y f g = g refl
+
+-- the copy at a place of a list
+pub data Pick (x : Copy) : ℕ → List Copy → Type 0 where
+  now : {y : Copy} {ys : List Copy} → y ≡ x → Pick x zero (y ∷ ys)
+  later : {i : ℕ} {y : Copy} {ys : List Copy} → Pick x i ys → Pick x (suc i) (y ∷ ys)
+
+pub pick-mem : {x : Copy} {i : ℕ} {xs : List Copy} → Pick x i xs → List·Memᴰ x xs
+pick-mem (now e) = List·Memᴰ·head (sym e)
+pick-mem (later p) = List·Memᴰ·tail (pick-mem p)
+
+pub without-mem : {x : Copy} (i : ℕ) (xs : List Copy) → List·Memᴰ x (without i xs) → List·Memᴰ x xs
+unfolding without
+without-mem zero [] m = m
+without-mem (suc i) [] m = m
+without-mem zero (y ∷ ys) m = List·Memᴰ·tail m
+without-mem (suc i) (y ∷ ys) m = elim (List·Memᴰ·cases-cons m) [ inl e ↦ List·Memᴰ·head e | inr m′ ↦ List·Memᴰ·tail (without-mem i ys m′) ]
+
+-- why a bridge drops a copy: its tree was never announced, or the bridge doesn't have it
+abbrev pub Refused : World → Copy → Type 0
+Refused w x = (treeOf (x .frame .tree) (w .trees) ≡ NoTree) ⊎ (isIn (x .frame .tree) (w .holds (x .at)) ≡ false)
+
+module _ (lax : Bool) (r : Rules) (P : World → Type 0) where
+  receive-by : (x : Copy) (w : World) → (Refused w x → P w) →
+      ((t : Tree) → treeOf (x .frame .tree) (w .trees) ≡ This t → isIn (x .frame .tree) (w .holds (x .at)) ≡ true → P (forward lax r x t w)) →
+      (f : Found) → treeOf (x .frame .tree) (w .trees) ≡ f → P (receive lax r x f w)
+  receive-by x w drop go NoTree e = drop (inl e)
+  receive-by x w drop go (This t) e = cond-by _ P (forward lax r x t w) w (λ h. go t e h) (λ h. drop (inr h))
+
+  -- a copy arrives: there is none at that place, or it is dropped, or it is handed on
+  pub arrive-by : (i : ℕ) (xs : List Copy) (w : World) → (((x : Copy) → Pick x i xs → ⊥) → P w) → ((x : Copy) → Pick x i xs → Refused w x → P w) →
+      ((x : Copy) (t : Tree) → Pick x i xs → treeOf (x .frame .tree) (w .trees) ≡ This t → isIn (x .frame .tree) (w .holds (x .at)) ≡ true → P (forward lax r x t w)) →
+      P (arrives lax r i xs w)
+  unfolding arrives
+  arrive-by zero [] w none drop go = none (λ x p. elim-none p)
+    where
+      elim-none : {x : Copy} {i : ℕ} → Pick x i [] → ⊥
+      elim-none p = elim p [ ]
+  arrive-by (suc i) [] w none drop go = none (λ x p. elim-none p)
+    where
+      elim-none : {x : Copy} {i : ℕ} → Pick x i [] → ⊥
+      elim-none p = elim p [ ]
+  arrive-by zero (x ∷ xs) w none drop go = receive-by x w (λ h. drop x (now refl) h) (λ t e h. go x t (now refl) e h) (treeOf (x .frame .tree) (w .trees)) refl
+  arrive-by (suc i) (x ∷ xs) w none drop go = arrive-by i xs w (λ k. none (λ y p. k y (before p))) (λ y p h. drop y (later p) h) (λ y t p e h. go y t (later p) e h)
+    where
+      before : {y : Copy} → Pick y (suc i) (x ∷ xs) → Pick y i xs
+      before (later p) = p
+
+  -- a tree is announced: unless its number is taken
+  pub announce-by : (t : Tree) (w : World) → P w → (treeOf (t .number) (w .trees) ≡ NoTree → P (announceIf t NoTree w)) → P (announceIf t (treeOf (t .number) (w .trees)) w)
+  announce-by t w old new = go (treeOf (t .number) (w .trees)) refl
+    where
+      go : (f : Found) → treeOf (t .number) (w .trees) ≡ f → P (announceIf t f w)
+      go NoTree e = new e
+      go (This u) e = old
+
+  -- a tree is adopted: if it was announced and looks like one
+  pub adopt-by : (b n : ℕ) (w : World) → P w →
+      ((t : Tree) → treeOf n (w .trees) ≡ This t → looks (r .bridges) t ≡ true →
+        P (record { home = w .home; up = w .up; trees = w .trees; holds = at b (two (n ∷ w .holds b)) (w .holds); learned = w .learned; copies = w .copies; got = w .got; next = w .next })) →
+      P (adoptIf lax r b n (treeOf n (w .trees)) w)
+  adopt-by b n w old new = go (treeOf n (w .trees)) refl
+    where
+      tree-looks : (x y : Bool) → (not x || y) ≡ false → x ≡ true
+      tree-looks x y e = grind arith
+      go : (f : Found) → treeOf n (w .trees) ≡ f → P (adoptIf lax r b n f w)
+      go NoTree e = old
+      go (This t) e = cond-by _ P w _ (λ _. old) (λ h. new t e (tree-looks _ _ h))
+
+  -- a station sends: both are there, it is plugged in, and its bridge has a tree
+  pub send-by : (s d : ℕ) (w : World) → P w →
+      ((n : ℕ) (ns : List ℕ) → w .holds (w .home s) ≡ n ∷ ns → (lax || ltb (w .home s) (r .bridges)) ≡ true → s < r .stations → d < r .stations → P (sendBy r s d (n ∷ ns) w)) →
+      P (happen lax r (Send s d) w)
+  unfolding sendBy
+  send-by s d w old new = cond-by _ P (sendBy r s d (w .holds (w .home s)) w) w (λ h. go (parts _ (r .stations) h) (w .holds (w .home s)) refl) (λ _. old)
+    where
+      parts : (p : Bool) (x : ℕ) → (p && (ltb s x && ltb d x)) ≡ true → (p ≡ true) × (s < x) × (d < x)
+      parts p x h = grind (arith, tells)
+      go : ((lax || ltb (w .home s) (r .bridges)) ≡ true) × (s < r .stations) × (d < r .stations) → (hs : List ℕ) → w .holds (w .home s) ≡ hs → P (sendBy r s d hs w)
+      go h [] e = old
+      go h (n ∷ ns) e = new n ns e (h .0) (h .1) (h .2)
