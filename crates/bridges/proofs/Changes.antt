@@ -74,12 +74,13 @@ module _ (lax : Bool) (r : Rules) (P : World → Type 0) where
   -- a tree is adopted: if it was announced and looks like one
   pub adopt-by : (b n : ℕ) (w : World) → P w →
       ((t : Tree) → treeOf n (w .trees) ≡ This t → looks (r .bridges) t ≡ true →
-        P (record { home = w .home; up = w .up; trees = w .trees; holds = at b (two (n ∷ w .holds b)) (w .holds); learned = w .learned; copies = w .copies; got = w .got; next = w .next })) →
+      P (record { home = w .home; up = w .up; trees = w .trees; holds = at b (two (n ∷ w .holds b)) (w .holds); learned = w .learned; copies = w .copies; got = w .got; next = w .next })) →
       P (adoptIf lax r b n (treeOf n (w .trees)) w)
   adopt-by b n w old new = go (treeOf n (w .trees)) refl
     where
       tree-looks : (x y : Bool) → (not x || y) ≡ false → x ≡ true
       tree-looks x y e = grind arith
+
       go : (f : Found) → treeOf n (w .trees) ≡ f → P (adoptIf lax r b n f w)
       go NoTree e = old
       go (This t) e = cond-by _ P w _ (λ _. old) (λ h. new t e (tree-looks _ _ h))
@@ -93,6 +94,7 @@ module _ (lax : Bool) (r : Rules) (P : World → Type 0) where
     where
       parts : (p : Bool) (x : ℕ) → (p && (ltb s x && ltb d x)) ≡ true → (p ≡ true) × (s < x) × (d < x)
       parts p x h = grind (arith, tells)
+
       go : ((lax || ltb (w .home s) (r .bridges)) ≡ true) × (s < r .stations) × (d < r .stations) → (hs : List ℕ) → w .holds (w .home s) ≡ hs → P (sendBy r s d hs w)
       go h [] e = old
       go h (n ∷ ns) e = new n ns e (h .0) (h .1) (h .2)

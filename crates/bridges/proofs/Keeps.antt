@@ -122,14 +122,17 @@ walks-on r trees up x t k e o h y w = subst (λ z. Walks r trees z) (sym (w .is)
   where
     c : ℕ
     c = w .to
+
     place : (c < r .bridges) ⊎ (k ≡ Behind c) → c < r .bridges
     place (inl lt) = lt
     place (inr e) = elim (h c e) [ inl lt ↦ lt | inr q ↦ absurd (off t (x .at) c (w .by) q) ]
       where
         off : (t : Tree) (b c : ℕ) → joined t b c ≡ true → c ≡ b → ⊥
         off t b c j q = grind (arith, tells)
+
     same : o .t ≡ t
     same = let a = o .is in cc
+
     go : c < r .bridges → Walks r trees (copyTo x c)
     go lt = record {
       t = t;
@@ -146,7 +149,6 @@ tree-stays t u n ts e h = elim (ℕ-discrete (t .number) n) [ yes q ↦ absurd (
 
 pub walks-stay : (r : Rules) (t : Tree) (ts : List Tree) → treeOf (t .number) ts ≡ NoTree → (x : Copy) → Walks r ts x → Walks r (t ∷ ts) x
 walks-stay r t ts e x o = record { t = o .t; is = tree-stays t (o .t) (x .frame .tree) ts e (o .is); good = o .good; walk = o .walk; inside = o .inside; still = o .still }
-
 
 is-known : (r : Rules) (t : Tree) (ts : List Tree) → treeOf (t .number) ts ≡ NoTree → (n : ℕ) → Known r ts n → Known r (t ∷ ts) n
 is-known r t ts e n k = record { t = k .t; is = tree-stays t (k .t) n ts e (k .is); good = k .good }
@@ -167,17 +169,24 @@ no-tree-before t n ts h = cond-by (eqb (t .number) n) (λ f. f ≡ NoTree → tr
 module _ (lax : Bool) (r : Rules) where
   -- fewer copies
   keeps-less : (i : ℕ) (w : World) → Keeps lax r w → Keeps lax r (with-copies (without i (w .copies)) w)
-  keeps-less i w k = record { homes = k .homes; held = k .held; behind = k .behind; blank = k .blank;
-    walks = λ x m. k .walks x (without-mem i (w .copies) m); fresh = λ x m. k .fresh x (without-mem i (w .copies) m); old = k .old }
+  keeps-less i w k = record {
+    homes = k .homes;
+    held = k .held;
+    behind = k .behind;
+    blank = k .blank;
+    walks = λ x m. k .walks x (without-mem i (w .copies) m);
+    fresh = λ x m. k .fresh x (without-mem i (w .copies) m);
+    old = k .old;
+  }
 
   keeps-forward : (x : Copy) (t : Tree) (w : World) → Keeps lax r w → Walks r (w .trees) x → x .frame .number < w .next → treeOf (x .frame .tree) (w .trees) ≡ This t → Keeps lax r (forward lax r x t w)
   keeps-forward x t w k o lt e = record {
     homes = k .homes;
     held = k .held;
     behind = λ b n s c. cond-by (eqb b (x .at) && (eqb n (x .frame .tree) && eqb s (x .frame .from))) (λ v. v ≡ Behind c → (c < r .bridges) ⊎ (c ≡ b)) (cameBy (x .trail)) (w .learned b n s)
-      (λ _ q. inl (came-behind r (r .bridges) (x .at) (x .trail) (o .inside) (o .still) c q)) (λ _ q. k .behind b n s c q);
+        (λ _ q. inl (came-behind r (r .bridges) (x .at) (x .trail) (o .inside) (o .still) c q)) (λ _ q. k .behind b n s c q);
     blank = λ b n s z. cond-by (eqb b (x .at) && (eqb n (x .frame .tree) && eqb s (x .frame .from))) (λ v. v ≡ Unknown) (cameBy (x .trail)) (w .learned b n s)
-      (λ h. absurd (no-such b n s h z)) (λ _. k .blank b n s z);
+        (λ h. absurd (no-such b n s h z)) (λ _. k .blank b n s z);
     walks = λ y m. elim (List·Memᴰ·append-cases (toward t (w .up) x known (r .bridges)) m) [ inl m′ ↦ walks-on r (w .trees) (w .up) x t known e o by y (toward-mem t (w .up) x known (r .bridges) y m′) | inr m′ ↦ k .walks y m′ ];
     fresh = λ y m. elim (List·Memᴰ·append-cases (toward t (w .up) x known (r .bridges)) m) [ inl m′ ↦ new-fresh y (toward-mem t (w .up) x known (r .bridges) y m′) | inr m′ ↦ k .fresh y m′ ];
     old = λ g m. elim (List·Memᴰ·append-cases (handed lax r w x known (r .stations)) m) [ inl m′ ↦ new-old g (handed-mem lax r w x known (r .stations) g m′) | inr m′ ↦ k .old g m′ ];
@@ -185,22 +194,29 @@ module _ (lax : Bool) (r : Rules) where
     where
       known : Where
       known = goesBy lax x (knows w x)
+
       by : (c : ℕ) → known ≡ Behind c → (c < r .bridges) ⊎ (c ≡ x .at)
       by c q = goes-behind lax r (w .trees) x (knows w x) o (λ d. k .behind (x .at) (x .frame .tree) (x .frame .to) d) c q
+
       no-such : (b n s : ℕ) → (eqb b (x .at) && (eqb n (x .frame .tree) && eqb s (x .frame .from))) ≡ true → treeOf n (w .trees) ≡ NoTree → ⊥
       no-such b n s h z = let q = subst (λ m. treeOf m (w .trees) ≡ NoTree) (same b n s (x .at) (x .frame .tree) (x .frame .from) h) z in grind arith
         where
           same : (b n s b2 n2 s2 : ℕ) → (eqb b b2 && (eqb n n2 && eqb s s2)) ≡ true → n ≡ n2
           same b n s b2 n2 s2 h = grind (arith, tells)
+
       new-fresh : (y : Copy) → Onward t (w .up) x known (r .bridges) y → y .frame .number < w .next
       new-fresh y o′ = subst (λ z. z .frame .number < w .next) (sym (o′ .is)) lt
+
       new-old : (g : Got) → (s : ℕ) × (g ≡ record { frame = x .frame .number; station = s; bridge = x .at }) × (mayHand lax r w x known s ≡ true) → g .frame < w .next
       new-old g h = subst (λ z. z .frame < w .next) (sym (h .1)) lt
 
   keeps-send : (s d n : ℕ) (ns : List ℕ) (w : World) → Keeps lax r w → w .holds (w .home s) ≡ n ∷ ns → (lax || ltb (w .home s) (r .bridges)) ≡ true → Keeps lax r (sendBy r s d (n ∷ ns) w)
   unfolding sendBy
   keeps-send s d n ns w k e on-net = record {
-    homes = k .homes; held = k .held; behind = k .behind; blank = k .blank;
+    homes = k .homes;
+    held = k .held;
+    behind = k .behind;
+    blank = k .blank;
     walks = λ y m. elim (List·Memᴰ·cases-cons m) [ inl q ↦ subst (λ z. Walks r (w .trees) z) (sym q) (new (k .held (w .home s) n (subst (λ hs. isIn n hs ≡ true) (sym e) (first-in n ns)))) | inr m′ ↦ k .walks y m′ ];
     fresh = λ y m. elim (List·Memᴰ·cases-cons m) [ inl q ↦ subst (λ z. z .frame .number < suc (w .next)) (sym q) (one-more (w .next)) | inr m′ ↦ up-one _ _ (k .fresh y m′) ];
     old = λ g m. up-one _ _ (k .old g m);
@@ -208,13 +224,16 @@ module _ (lax : Bool) (r : Rules) where
     where
       up-one : (a b : ℕ) → a < b → a < suc b
       up-one a b h = omega arith
+
       new : Known r (w .trees) n → Walks r (w .trees) (record { frame = record { number = w .next; from = s; to = d; colour = r .colour s; tree = n }; at = w .home s; trail = [] })
       new h = record { t = h .t; is = h .is; good = h .good; walk = here (w .home s); inside = λ p. all-below (r .bridges) (w .home s) [] (inside p) nothing; still = λ _. refl }
         where
           nothing : allBelow (r .bridges) [] ≡ true
           nothing = unfold allBelow in refl
+
           either : (x : Bool) (a b : ℕ) → (x || ltb a b) ≡ true → (x ≡ true) ⊎ (a < b)
           either x a b h = grind (arith, tells)
+
           inside : 0 < r .bridges → w .home s < r .bridges
           inside p = elim (either lax (w .home s) (r .bridges) on-net) [ inl l ↦ k .homes l s p | inr lt ↦ lt ]
 
@@ -225,25 +244,45 @@ module _ (lax : Bool) (r : Rules) where
   keeps-step (Lose i) w k = keeps-less i w k
   keeps-step (Believe a b c) w k = k
   keeps-step (Announce t) w k = announce-by lax r (Keeps lax r) t w k (λ e. record {
-    homes = k .homes; held = λ b n h. is-known r t (w .trees) e n (k .held b n h); behind = k .behind;
+    homes = k .homes;
+    held = λ b n h. is-known r t (w .trees) e n (k .held b n h);
+    behind = k .behind;
     blank = λ b n s h. k .blank b n s (no-tree-before t n (w .trees) h);
-    walks = λ x m. walks-stay r t (w .trees) e x (k .walks x m); fresh = k .fresh; old = k .old })
+    walks = λ x m. walks-stay r t (w .trees) e x (k .walks x m);
+    fresh = k .fresh;
+    old = k .old;
+  })
   keeps-step (Adopt b n) w k = adopt-by lax r (Keeps lax r) b n w k (λ t e l. record {
     homes = k .homes;
     held = λ p m. cond-by (eqb p b) (λ hs. isIn m hs ≡ true → Known r (w .trees) m) (two (n ∷ w .holds b)) (w .holds p)
-      (λ _ h. elim (in-two m n (w .holds b) h) [ inl q ↦ subst (λ z. Known r (w .trees) z) q (record { t = t; is = e; good = l }) | inr h′ ↦ k .held b m h′ ]) (λ _ h. k .held p m h);
-    behind = k .behind; blank = k .blank; walks = k .walks; fresh = k .fresh; old = k .old })
+        (λ _ h. elim (in-two m n (w .holds b) h) [ inl q ↦ subst (λ z. Known r (w .trees) z) q (record { t = t; is = e; good = l }) | inr h′ ↦ k .held b m h′ ]) (λ _ h. k .held p m h);
+    behind = k .behind;
+    blank = k .blank;
+    walks = k .walks;
+    fresh = k .fresh;
+    old = k .old;
+  })
   keeps-step (Move s b) w k = cond-by (not lax || ltb b (r .bridges)) (Keeps lax r) _ w (λ h. record {
     homes = λ l q p. cond-by (eqb q s) (λ c. c < r .bridges) b (w .home q) (λ _. there lax b (r .bridges) h l) (λ _. k .homes l q p);
-    held = k .held; behind = k .behind; blank = k .blank; walks = k .walks; fresh = k .fresh; old = k .old }) (λ _. k)
+    held = k .held;
+    behind = k .behind;
+    blank = k .blank;
+    walks = k .walks;
+    fresh = k .fresh;
+    old = k .old;
+  }) (λ _. k)
     where
       there : (x : Bool) (a b : ℕ) → (not x || ltb a b) ≡ true → x ≡ true → a < b
       there x a b h l = grind (arith, tells)
   keeps-step (Forget b n s) w k = record {
-    homes = k .homes; held = k .held;
+    homes = k .homes;
+    held = k .held;
     behind = λ p m q c. cond-by (eqb p b && (eqb m n && eqb q s)) (λ v. v ≡ Behind c → (c < r .bridges) ⊎ (c ≡ p)) Unknown (w .learned p m q) (λ _ e. absurd (unknown e)) (λ _ e. k .behind p m q c e);
     blank = λ p m q z. cond-by (eqb p b && (eqb m n && eqb q s)) (λ v. v ≡ Unknown) Unknown (w .learned p m q) (λ _. refl) (λ _. k .blank p m q z);
-    walks = k .walks; fresh = k .fresh; old = k .old }
+    walks = k .walks;
+    fresh = k .fresh;
+    old = k .old;
+  }
     where
       unknown : {c : ℕ} → Unknown ≡ Behind c → ⊥
       unknown e = grind arith
@@ -252,21 +291,30 @@ module _ (lax : Bool) (r : Rules) where
     held = λ p m. cond-by (eqb p b) (λ hs. isIn m hs ≡ true → Known r (w .trees) m) [] (w .holds p) (λ _ h. absurd (nothing m h)) (λ _ h. k .held p m h);
     behind = λ p m q c. cond-by (eqb p b) (λ v. v ≡ Behind c → (c < r .bridges) ⊎ (c ≡ p)) Unknown (w .learned p m q) (λ _ e. absurd (unknown e)) (λ _ e. k .behind p m q c e);
     blank = λ p m q z. cond-by (eqb p b) (λ v. v ≡ Unknown) Unknown (w .learned p m q) (λ _. refl) (λ _. k .blank p m q z);
-    walks = k .walks; fresh = k .fresh; old = k .old }
+    walks = k .walks;
+    fresh = k .fresh;
+    old = k .old;
+  }
     where
       unknown : {c : ℕ} → Unknown ≡ Behind c → ⊥
       unknown e = grind arith
+
       nothing : (m : ℕ) → isIn m [] ≡ true → ⊥
       nothing m e = unfold isIn in grind arith
   keeps-step (Turn b n s ok) w k = record {
-    homes = k .homes; held = k .held;
+    homes = k .homes;
+    held = k .held;
     behind = λ p m q c. cond-by (eqb p b && (eqb m n && eqb q s)) (λ v. v ≡ Behind c → (c < r .bridges) ⊎ (c ≡ p)) (turned b ok (w .learned p m q)) (w .learned p m q)
-      (λ h e. turned-behind p b c ok (r .bridges) (w .learned p m q) (bridge-is p b _ h) (k .behind p m q c) e) (λ _ e. k .behind p m q c e);
+        (λ h e. turned-behind p b c ok (r .bridges) (w .learned p m q) (bridge-is p b _ h) (k .behind p m q c) e) (λ _ e. k .behind p m q c e);
     blank = λ p m q z. cond-by (eqb p b && (eqb m n && eqb q s)) (λ v. v ≡ Unknown) (turned b ok (w .learned p m q)) (w .learned p m q) (λ _. ap (turned b ok) (k .blank p m q z)) (λ _. k .blank p m q z);
-    walks = k .walks; fresh = k .fresh; old = k .old }
+    walks = k .walks;
+    fresh = k .fresh;
+    old = k .old;
+  }
     where
       bridge-is : (p b : ℕ) (x : Bool) → (eqb p b && x) ≡ true → p ≡ b
       bridge-is p b x h = grind (arith, tells)
+
       turned-behind : (p b c : ℕ) (ok : Bool) (n : ℕ) (v : Where) → p ≡ b → (v ≡ Behind c → (c < n) ⊎ (c ≡ p)) → turned b ok v ≡ Behind c → (c < n) ⊎ (c ≡ p)
       turned-behind p b c ok n Unknown q h e = absurd (grind arith)
       turned-behind p b c ok n Here q h e = grind arith
@@ -275,11 +323,18 @@ module _ (lax : Bool) (r : Rules) where
   pub keeps : (es : List Event) → Keeps lax r (run lax r es)
   unfolding run
   keeps [] = record {
-    homes = λ l s p. subst (λ x. cond x 0 (r .bridges) < r .bridges) (sym l) p; held = λ b n h. absurd (nothing n h); behind = λ b n s c e. absurd (unknown e); blank = λ b n s z. refl;
-    walks = λ x m. absurd (List·Memᴰ·not-nil m); fresh = λ x m. absurd (List·Memᴰ·not-nil m); old = λ g m. absurd (List·Memᴰ·not-nil m) }
+    homes = λ l s p. subst (λ x. cond x 0 (r .bridges) < r .bridges) (sym l) p;
+    held = λ b n h. absurd (nothing n h);
+    behind = λ b n s c e. absurd (unknown e);
+    blank = λ b n s z. refl;
+    walks = λ x m. absurd (List·Memᴰ·not-nil m);
+    fresh = λ x m. absurd (List·Memᴰ·not-nil m);
+    old = λ g m. absurd (List·Memᴰ·not-nil m);
+  }
     where
       unknown : {c : ℕ} → Unknown ≡ Behind c → ⊥
       unknown e = grind arith
+
       nothing : (m : ℕ) → isIn m [] ≡ true → ⊥
       nothing m e = unfold isIn in grind arith
   keeps (e ∷ es) = keeps-step e (run lax r es) (keeps es)

@@ -70,7 +70,10 @@ impl Table {
     pub fn new(heap: Global) -> Result<Self, AllocError>
         ensures { λ r. ⌜ made r (λ t. contents t ≡ empty) ⌝ }
     {
-        Ok(Table { entries: Vec::with_capacity(heap, MOST)?, heard: 0 })
+        Ok(Table {
+            entries: Vec::with_capacity(heap, MOST)?,
+            heard: 0,
+        })
     }
 
     // Forgets everything, as when the tree is given up; the memory stays.
@@ -99,7 +102,12 @@ impl Table {
         if station.is_group() {
             return;
         }
-        let entry = Entry { station: station.number(), location, tick, order: self.heard };
+        let entry = Entry {
+            station: station.number(),
+            location,
+            tick,
+            order: self.heard,
+        };
         self.heard = self.heard.saturating_add(1);
         note(&mut self.entries, entry, keep.number());
     }

@@ -16,6 +16,6 @@ unfolding learnt
 learnt-heard tree c f t at tick = go (groupAddress (f .address))
   where
     go : (b : Bool) → _≡_ {A = Slot} (record { tree = tree; table = cond b c (record { entries = learned (record { station = numberOf f; location = at; tick = tick; order = c .heard }) (numberOf t) (c .entries); heard = next (c .heard) }) })
-      (cond b (record { tree = tree; table = c }) (heardIn at (numberOf f) (numberOf t) tick (record { tree = tree; table = c })))
+        (cond b (record { tree = tree; table = c }) (heardIn at (numberOf f) (numberOf t) tick (record { tree = tree; table = c })))
     go true = refl
     go false = refl

@@ -78,8 +78,13 @@ linked p link s = record { number = s .number; ports = set (s .ports) p (linkPor
 
 -- a frame from a station to another came along the tree of a slot: the sender is learnt, and never in the place of the one that the frame is for
 abbrev pub heardIn : Location → ℕ → ℕ → ℕ → Slot → Slot
-heardIn at from to tick slot = record { tree = slot .tree; table = record {
-    entries = learned (record { station = from; location = at; tick = tick; order = slot .table .heard }) to (slot .table .entries); heard = next (slot .table .heard) } }
+heardIn at from to tick slot = record {
+  tree = slot .tree;
+  table = record {
+    entries = learned (record { station = from; location = at; tick = tick; order = slot .table .heard }) to (slot .table .entries);
+    heard = next (slot .table .heard);
+  };
+}
 
 -- by which ports it then goes out
 abbrev pub goesOut : (ℕ → Kind) → ℕ → Found → ℕ → Came → Place → ℕ → Bool

@@ -9,16 +9,25 @@ ghost use Rattle.forwarding.specs.Ports.{portsOf};
 ghost use Rattle.forwarding.specs.Places.{cameOf, whereFrom};
 ghost use Rattle.forwarding.specs.State.{heardIn, lookIn, goesOut};
 ghost use Rattle.forwarding.specs.Holding.{slotOf};
-use fdb::Station;
-use sets::BridgeId;
 use crate::Ingress;
 use crate::Port;
 use crate::Vlan;
 use crate::egress_ports;
 use crate::held::Held;
+use fdb::Station;
+use sets::BridgeId;
 
 // Learns whence the sender's frames come, but of a group, and says by which ports the frame goes out.
-pub fn forward(held: &mut Held, ports: &[Port; 16], me: BridgeId, vlan: Vlan, ingress: Ingress, from: Station, to: Station, tick: u64) -> [bool; 16]
+pub fn forward(
+    held: &mut Held,
+    ports: &[Port; 16],
+    me: BridgeId,
+    vlan: Vlan,
+    ingress: Ingress,
+    from: Station,
+    to: Station,
+    tick: u64,
+) -> [bool; 16]
     ensures after { λ _. ⌜ slotOf (now (held .exit)) ≡ cond (groupAddress (from .address)) (slotOf (now (held .entry))) (heardIn (whereFrom ingress) (numberOf from) (numberOf to) tick (slotOf (now (held .entry)))) ⌝ }
     ensures out { λ r. ⌜ ((p : ℕ) → p < 16 → getD r p false ≡ goesOut (portsOf (now (ports .entry))) (me .value) (slotOf (now (held .exit)) .tree) (vlan .value) (cameOf ingress) (lookIn (slotOf (now (held .exit))) (numberOf to)) p) ⌝ }
 {

@@ -1,7 +1,7 @@
 // The bridge itself.
-use sets::BridgeId;
 use crate::Port;
 use crate::held::Held;
+use sets::BridgeId;
 
 // A bridge: its number, its ports, and the two trees that it adopted last, the newest first.
 #[derive(Drop)]

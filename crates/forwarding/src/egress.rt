@@ -9,15 +9,15 @@ ghost use Rattle.trees.specs.Meanings.{meaning};
 ghost use Rattle.forwarding.specs.Ports.{kindOf, portsOf};
 ghost use Rattle.forwarding.specs.Places.{placeOf, cameOf, notByPort};
 ghost use Rattle.forwarding.specs.Outward.{serves, toStations, mayGoTo, outBy};
+use crate::Ingress;
+use crate::Port;
+use crate::Vlan;
+use crate::port_at;
+use crate::ports_to;
 use fdb::Location;
 use sets::BridgeId;
 use sets::BridgeSet;
 use trees::Tree;
-use crate::Ingress;
-use crate::Port;
-use crate::port_at;
-use crate::ports_to;
-use crate::Vlan;
 
 // May the port have frames of the VLAN? The one place in which that is decided.
 pub fn is_served(port: Port, vlan: Vlan) -> bool
@@ -94,7 +94,14 @@ fn only_bridge(bridges: BridgeSet, bridge: u8) -> BridgeSet
 }
 
 // The ports by which a frame of a VLAN that came to a bridge along a tree goes out, to a station that is at a location.
-pub fn egress_ports(ports: &[Port; 16], me: BridgeId, tree: &Tree, vlan: Vlan, ingress: Ingress, location: Option<Location>) -> [bool; 16]
+pub fn egress_ports(
+    ports: &[Port; 16],
+    me: BridgeId,
+    tree: &Tree,
+    vlan: Vlan,
+    ingress: Ingress,
+    location: Option<Location>,
+) -> [bool; 16]
     ensures { λ r. ⌜ ((p : ℕ) → p < 16 → getD r p false ≡ outBy (portsOf (now (ports .entry))) (me .value) (meaning (now (tree .entry))) (vlan .value) (cameOf ingress) (placeOf location) p) ⌝ }
 {
     match location {
@@ -104,6 +111,9 @@ pub fn egress_ports(ports: &[Port; 16], me: BridgeId, tree: &Tree, vlan: Vlan, i
             either(&stations, &bridges)
         }
         Some(Location::Here(port)) => only(&to_stations(ports, vlan, ingress), port),
-        Some(Location::Behind(bridge)) => ports_to(ports, only_bridge(next_bridges(me, tree, ingress), bridge)),
+        Some(Location::Behind(bridge)) => ports_to(
+            ports,
+            only_bridge(next_bridges(me, tree, ingress), bridge),
+        ),
     }
 }

@@ -7,9 +7,6 @@ ghost use Rattle.std.specs.Options.{mapped};
 ghost use Rattle.forwarding.specs.Replies.{FromStation, FromNeighbour, neighbourWay, numberIn};
 ghost use Rattle.forwarding.specs.Ways.{wayOf};
 ghost use Rattle.forwarding.specs.Holding.{stateOf};
-use fdb::Station;
-use sets::BridgeId;
-use trees::TreeId;
 use crate::Bridge;
 use crate::Fault;
 use crate::Ingress;
@@ -19,6 +16,9 @@ use crate::Vlan;
 use crate::forward;
 use crate::port_at;
 use crate::steps::holds_number;
+use fdb::Station;
+use sets::BridgeId;
+use trees::TreeId;
 
 // The station with an address in a VLAN.
 fn station_in(address: [u8; 6], vlan: Vlan) -> Station
@@ -63,7 +63,13 @@ impl Bridge {
     }
 
     // A station's frame comes by a port: it goes along the newest tree. The answer has a flag for each port by which it goes out.
-    pub fn from_station(mut self, port: u8, from: [u8; 6], to: [u8; 6], tick: u64) -> (Bridge, Result<[bool; 16], Fault>)
+    pub fn from_station(
+        mut self,
+        port: u8,
+        from: [u8; 6],
+        to: [u8; 6],
+        tick: u64,
+    ) -> (Bridge, Result<[bool; 16], Fault>)
         ensures { λ r. ⌜ FromStation (stateOf self) port from to tick (stateOf (r .0)) (r .1) ⌝ }
     {
         if from[0] % 2 == 1 {
@@ -86,7 +92,11 @@ impl Bridge {
     }
 
     // A frame comes from a neighbour: it goes along the tree that it names. The answer has a flag for each port by which it goes out.
-    pub fn from_neighbour(mut self, frame: Arrival, tick: u64) -> (Bridge, Result<[bool; 16], Fault>)
+    pub fn from_neighbour(
+        mut self,
+        frame: Arrival,
+        tick: u64,
+    ) -> (Bridge, Result<[bool; 16], Fault>)
         ensures { λ r. ⌜ FromNeighbour (stateOf self) (frame .by .value) (frame .«to_bridge» .value) (idNumber (frame .tree)) (frame .vlan .value) (frame .from) (frame .to) tick (stateOf (r .0)) (r .1) ⌝ }
     {
         let (id, ports) = (self.id, self.ports);
@@ -94,13 +104,37 @@ impl Bridge {
         match self.tree_for(frame) {
             Err(fault) => (self, Err(fault)),
             Ok(Along::Newest) => {
-                let (from, to) = (station_in(frame.from, frame.vlan), station_in(frame.to, frame.vlan));
-                let out = forward(&mut self.newest, &ports, id, frame.vlan, ingress, from, to, tick);
+                let (from, to) = (
+                    station_in(frame.from, frame.vlan),
+                    station_in(frame.to, frame.vlan),
+                );
+                let out = forward(
+                    &mut self.newest,
+                    &ports,
+                    id,
+                    frame.vlan,
+                    ingress,
+                    from,
+                    to,
+                    tick,
+                );
                 (self, Ok(out))
             }
             Ok(Along::Older) => {
-                let (from, to) = (station_in(frame.from, frame.vlan), station_in(frame.to, frame.vlan));
-                let out = forward(&mut self.older, &ports, id, frame.vlan, ingress, from, to, tick);
+                let (from, to) = (
+                    station_in(frame.from, frame.vlan),
+                    station_in(frame.to, frame.vlan),
+                );
+                let out = forward(
+                    &mut self.older,
+                    &ports,
+                    id,
+                    frame.vlan,
+                    ingress,
+                    from,
+                    to,
+                    tick,
+                );
                 (self, Ok(out))
             }
         }

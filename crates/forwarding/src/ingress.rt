@@ -1,9 +1,9 @@
 // Whence a frame came.
 ghost use mathlib.Core.Path.{_≡_};
 ghost use Rattle.forwarding.specs.Places.{placeAt, cameOf, whereFrom, sender};
+use crate::PortId;
 use fdb::Location;
 use sets::BridgeId;
-use crate::PortId;
 
 // Whence a frame came to a bridge.
 #[derive(Clone, Copy)]

@@ -6,25 +6,28 @@ ghost use Rattle.trees.specs.Ids.{idNumber};
 ghost use Rattle.forwarding.specs.State.{noSlot, isTree, started, adopted, agedState, crashed};
 ghost use Rattle.forwarding.specs.Replies.{relinked, linkAnswer};
 ghost use Rattle.forwarding.specs.Holding.{slotOf, stateOf};
-use fdb::Table;
-use sets::BridgeId;
-use std::alloc::AllocError;
-use std::alloc::Global;
-use trees::Tree;
-use trees::TreeId;
 use crate::Bridge;
 use crate::Fault;
 use crate::Link;
 use crate::Port;
 use crate::held::Held;
 use crate::port_at;
+use fdb::Table;
+use sets::BridgeId;
+use std::alloc::AllocError;
+use std::alloc::Global;
+use trees::Tree;
+use trees::TreeId;
 
 impl Held {
     // A place for a tree, with none in it.
     fn empty(heap: Global) -> Result<Held, AllocError>
         ensures { λ r. ⌜ made r (λ h. slotOf h ≡ noSlot) ⌝ }
     {
-        Ok(Held { tree: None, table: Table::new(heap)? })
+        Ok(Held {
+            tree: None,
+            table: Table::new(heap)?,
+        })
     }
 }
 
@@ -45,7 +48,12 @@ impl Bridge {
     {
         let newest = Held::empty(heap)?;
         let older = Held::empty(heap)?;
-        Ok(Bridge { id, ports, newest, older })
+        Ok(Bridge {
+            id,
+            ports,
+            newest,
+            older,
+        })
     }
 
     // Adopts a tree as its newest.
@@ -55,10 +63,23 @@ impl Bridge {
         if holds_number(&self.newest, tree.id()) {
             return self;
         }
-        let Bridge { id, ports, newest, older } = self;
+        let Bridge {
+            id,
+            ports,
+            newest,
+            older,
+        } = self;
         let Held { tree: _, mut table } = older;
         table.clear();
-        Bridge { id, ports, newest: Held { tree: Some(tree), table }, older: newest }
+        Bridge {
+            id,
+            ports,
+            newest: Held {
+                tree: Some(tree),
+                table,
+            },
+            older: newest,
+        }
     }
 
     // What was not heard of for long is forgotten, along both trees.

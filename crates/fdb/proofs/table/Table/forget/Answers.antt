@@ -12,12 +12,13 @@ items-are : (c : need.After-truncate) → vec-items (c .truncate .last .self) �
 items-are c = cc (refilled-is (c .args .self .now .entries) (c .keep-fresh-count .last .entries) (omega arith))
 
 pub ghost-self : need.ghost-self
-ghost-self c =
-    ((omega arith, omega arith),
-     (subst (λ es. ascending es ≡ true) (sym (items-are c)) (ascending-remembered (c .args .tick) (vec-items (c .args .self .now .entries)) (c .args .self .now .sorted)), tt))
+ghost-self c = (
+  (omega arith, omega arith),
+  (subst (λ es. ascending es ≡ true) (sym (items-are c)) (ascending-remembered (c .args .tick) (vec-items (c .args .self .now .entries)) (c .args .self .now .sorted)), tt),
+)
 
 pub returns : need.returns
 returns c =
     let h : vec-items (c .truncate .last .self) ≡ remembered (c .args .tick) (vec-items (c .args .self .now .entries))
-        = cc (refilled-is (c .args .self .now .entries) (c .keep-fresh-count .last .entries) (omega arith)) in
+    = cc (refilled-is (c .args .self .now .entries) (c .keep-fresh-count .last .entries) (omega arith)) in
     λ i. record { entries = h i; heard = c .args .self .now .heard }
