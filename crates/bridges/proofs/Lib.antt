@@ -3,3 +3,5 @@ pub mod Changes
 pub mod Keeps
 pub mod NoRound
 pub mod Vlan
+pub mod Counts
+pub mod Twice
