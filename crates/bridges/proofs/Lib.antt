@@ -5,3 +5,5 @@ pub mod NoRound
 pub mod Vlan
 pub mod Counts
 pub mod Twice
+pub mod TopWays
+pub mod Learnt

@@ -32,7 +32,7 @@ reach n (This t) h b (a ∷ bs) = leads n t a b h
 abbrev pub ahead : ℕ → ℕ → List Tree → ℕ → Copy → Bool
 ahead n f trees h x = eqb (x .frame .number) f && reach n (treeOf (x .frame .tree) trees) h (x .at) (x .trail)
 
-walk-joined : {t : Tree} {c b : ℕ} {bs : List ℕ} → Walk t (c ∷ (b ∷ bs)) → joined t b c ≡ true
+pub walk-joined : {t : Tree} {c b : ℕ} {bs : List ℕ} → Walk t (c ∷ (b ∷ bs)) → joined t b c ≡ true
 walk-joined (first c j) = j
 walk-joined (on c w j nb) = j
 
