@@ -7,3 +7,5 @@ pub mod Counts
 pub mod Twice
 pub mod TopWays
 pub mod Learnt
+pub mod Quiet
+pub mod Arrives

@@ -69,7 +69,7 @@ module _ (n : ℕ) (t : Tree) (l : looks n t ≡ true) where
       not-self : (a : ℕ) → ltb a a ≡ false
       not-self a = grind (arith, tells)
 
-  top-alone : {c : ℕ} (x : ℕ) → t .above x ≡ x → Under n t c x → x ≡ c
+  pub top-alone : {c : ℕ} (x : ℕ) → t .above x ≡ x → Under n t c x → x ≡ c
   top-alone x e (self q) = q
   top-alone x e (more lt u) = sym e ∙ top-alone (t .above x) (ap (t .above) e) u
 
