@@ -1,4 +1,9 @@
 pub mod Dropped
+pub mod Spanning
+pub mod CanRest
+pub mod MainFrom
+pub mod Premises
+pub mod Refusals
 pub mod Changes
 pub mod Keeps
 pub mod NoRound
