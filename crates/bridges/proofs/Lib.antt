@@ -14,3 +14,4 @@ pub mod TopWays
 pub mod Learnt
 pub mod Quiet
 pub mod Arrives
+pub mod Guaranteed
