@@ -12,6 +12,8 @@ pub use shape::TreeFaultDebug;
 pub use shape::TreeFaultPartialEq;
 pub use spanning_tree::Tree;
 pub use tree_id::TreeId;
+pub use tree_id::TreeIdDebug;
+pub use tree_id::TreeIdPartialEq;
 
 // Trees' numbers go by the sequence number, then by the announcer, then by the nonce.
 pub fn ordered_by_parts_stands() -> u8
