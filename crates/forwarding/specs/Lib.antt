@@ -1,7 +1,3 @@
-pub mod Ports
-pub mod Flags
-pub mod Places
-pub mod Outward
 pub mod State
 pub mod Holding
 pub mod Faults

@@ -13,13 +13,13 @@ use Rattle.fdb.specs.declared.entry.Location.the-variants.{Here, Behind}
 use Rattle.fdb.specs.Address.{groupAddress, stationNumber}
 use Rattle.forwarding.specs.declared.fault.Fault.{Fault}
 use Rattle.forwarding.specs.declared.fault.Fault.the-variants as fault
-use Rattle.forwarding.specs.declared.port.Port.{Port}
-use Rattle.forwarding.specs.declared.port.Port.the-variants as port
-use Rattle.forwarding.specs.declared.port.Link.{Link}
+use Rattle.ports.specs.declared.port.Port.{Port}
+use Rattle.ports.specs.declared.port.Port.the-variants as port
+use Rattle.ports.specs.declared.port.Link.{Link}
 use Rattle.std.specs.declared.option.Option.{Option}
 use Rattle.std.specs.declared.option.Option.the-variants.{None, Some}
-use Rattle.forwarding.specs.Ports.{Kind, Idle, ToStations, ToBridge, portsOf}
-use Rattle.forwarding.specs.Places.{Came, ByPort, ByBridge}
+use Rattle.ports.specs.Ports.{Kind, Idle, ToStations, ToBridge, portsOf}
+use Rattle.ports.specs.Places.{Came, ByPort, ByBridge}
 use Rattle.forwarding.specs.State.{Slot, State, isTree, heardIn, lookIn, goesOut, isAccess, linked}
 
 -- it is refused; it goes along the newest tree, or along the older one

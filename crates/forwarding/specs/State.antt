@@ -12,12 +12,12 @@ use Rattle.bridges.specs.Net.{Found, NoTree, This}
 use Rattle.fdb.specs.declared.entry.Location.{Location}
 use Rattle.fdb.specs.Entries as entries
 use Rattle.fdb.specs.Contents.{Contents, empty, learned, next, aged}
-use Rattle.forwarding.specs.declared.port.Port.{Port}
-use Rattle.forwarding.specs.declared.port.Port.the-variants.{Unused, Access, Trunk}
-use Rattle.forwarding.specs.declared.port.Link.{Link}
-use Rattle.forwarding.specs.Ports.{Kind, portsOf}
-use Rattle.forwarding.specs.Places.{Place, placeOf, Came}
-use Rattle.forwarding.specs.Outward.{outBy}
+use Rattle.ports.specs.declared.port.Port.{Port}
+use Rattle.ports.specs.declared.port.Port.the-variants.{Unused, Access, Trunk}
+use Rattle.ports.specs.declared.port.Link.{Link}
+use Rattle.ports.specs.Ports.{Kind, portsOf}
+use Rattle.ports.specs.Places.{Place, placeOf, Came}
+use Rattle.ports.specs.Outward.{outBy}
 
 -- a place for a tree: the tree, and what was learnt along it
 pub record Slot : Type 0 where

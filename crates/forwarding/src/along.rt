@@ -5,16 +5,16 @@ ghost use Prim.Native.Nat.{ℕ, _<_};
 ghost use lib.ListN.{getD};
 ghost use Rattle.fdb.specs.Address.{groupAddress};
 ghost use Rattle.fdb.specs.Contents.{numberOf};
-ghost use Rattle.forwarding.specs.Ports.{portsOf};
-ghost use Rattle.forwarding.specs.Places.{cameOf, whereFrom};
+ghost use Rattle.ports.specs.Ports.{portsOf};
+ghost use Rattle.ports.specs.Places.{cameOf, whereFrom};
 ghost use Rattle.forwarding.specs.State.{heardIn, lookIn, goesOut};
 ghost use Rattle.forwarding.specs.Holding.{slotOf};
-use crate::Ingress;
-use crate::Port;
-use crate::Vlan;
-use crate::egress_ports;
 use crate::held::Held;
 use fdb::Station;
+use ports::Ingress;
+use ports::Port;
+use ports::Vlan;
+use ports::egress_ports;
 use sets::BridgeId;
 
 // Learns whence the sender's frames come, but of a group, and says by which ports the frame goes out.

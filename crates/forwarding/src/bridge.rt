@@ -1,6 +1,6 @@
 // The bridge itself.
-use crate::Port;
 use crate::held::Held;
+use ports::Port;
 use sets::BridgeId;
 
 // A bridge: its number, its ports, and the two trees that it adopted last, the newest first.

@@ -10,11 +10,11 @@ use Rattle.bridges.specs.Net.{Frame, Copy, Where, Unknown, Here, Behind, Got, R
 use Rattle.std.specs.declared.option.Option.{Option}
 use Rattle.fdb.specs.declared.entry.Location.{Location}
 use Rattle.fdb.specs.declared.entry.Location.the-variants as location
-use Rattle.forwarding.specs.declared.port.Port.{Port}
-use Rattle.forwarding.specs.declared.port.Link.{Link}
-use Rattle.forwarding.specs.Ports.{Kind, Idle, ToStations, ToBridge, portsOf, leadsTo, noneBelow}
-use Rattle.forwarding.specs.Places.{Place, Nowhere, AtPort, Toward, Came, ByPort, ByBridge}
-use Rattle.forwarding.specs.Outward.{serves}
+use Rattle.ports.specs.declared.port.Port.{Port}
+use Rattle.ports.specs.declared.port.Link.{Link}
+use Rattle.ports.specs.Ports.{Kind, Idle, ToStations, ToBridge, portsOf, leadsTo, noneBelow}
+use Rattle.ports.specs.Places.{Place, Nowhere, AtPort, Toward, Came, ByPort, ByBridge}
+use Rattle.ports.specs.Outward.{serves}
 use Rattle.forwarding.specs.State.{Slot, State, isTree, lookIn, started, adopted, agedState, crashed}
 use Rattle.forwarding.specs.Replies.{Way, Refuse, Newest, Older, none, vlanAt, stationWay, after, goes, relinked}
 use Rattle.forwarding.specs.declared.fault.Fault.the-variants as fault

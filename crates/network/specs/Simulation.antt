@@ -10,9 +10,9 @@ use Rattle.bridges.specs.Net.{Frame, Copy, Where, Unknown, Here, Behind, Got, R
 use Rattle.bridges.specs.Promise.{countGot}
 use Rattle.bridges.specs.Fabric.{Event, run}
 use Rattle.bridges.specs.Guarantee.{Assured, countAll, sentBy}
-use Rattle.forwarding.specs.declared.port.Port.{Port}
-use Rattle.forwarding.specs.Ports.{portsOf, noneBelow}
-use Rattle.forwarding.specs.Places.{Place, Nowhere, AtPort, Toward}
+use Rattle.ports.specs.declared.port.Port.{Port}
+use Rattle.ports.specs.Ports.{portsOf, noneBelow}
+use Rattle.ports.specs.Places.{Place, Nowhere, AtPort, Toward}
 use Rattle.forwarding.specs.State.{Slot, State, isTree, lookIn}
 use Rattle.network.specs.Network.{Network, Plug, rules, vlanOf, isHere, Reached}
 

@@ -2,7 +2,7 @@
 ghost use mathlib.Core.Path.{_≡_};
 ghost use mathlib.Core.Bool.{true};
 ghost use Rattle.std.specs.Options.{Cases as BySome};
-ghost use Rattle.forwarding.specs.Ports.{portsOf, leads, leadsTo, noneBelow};
+ghost use Rattle.ports.specs.Ports.{portsOf, leads, leadsTo, noneBelow};
 use crate::Port;
 use crate::PortId;
 use crate::port_at;

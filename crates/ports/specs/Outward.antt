@@ -3,8 +3,8 @@ use mathlib.Core.Bool.{Bool, true, false, _&&_, _||_}
 use Prim.Native.Nat.{ℕ}
 use lib.Dec.{eqb}
 use Rattle.trees.specs.Tree.{Tree, joined}
-use Rattle.forwarding.specs.Ports.{Kind, Idle, ToStations, ToBridge, onward}
-use Rattle.forwarding.specs.Places.{Place, Nowhere, AtPort, Toward, Came, notByPort, notToBridge}
+use Rattle.ports.specs.Ports.{Kind, Idle, ToStations, ToBridge, onward}
+use Rattle.ports.specs.Places.{Place, Nowhere, AtPort, Toward, Came, notByPort, notToBridge}
 
 -- may a port have frames of a VLAN: it leads to stations of that VLAN
 abbrev pub serves : Kind → ℕ → Bool

@@ -1,6 +1,6 @@
 // Whence a frame came.
 ghost use mathlib.Core.Path.{_≡_};
-ghost use Rattle.forwarding.specs.Places.{placeAt, cameOf, whereFrom, sender};
+ghost use Rattle.ports.specs.Places.{placeAt, cameOf, whereFrom, sender};
 use crate::PortId;
 use fdb::Location;
 use sets::BridgeId;

@@ -3,8 +3,8 @@ use mathlib.Core.Path.{refl}
 use native.Mathlib.Numerals.{add-one}
 use native.Mathlib.Omega.{arith}
 use Rattle.std.proofs.shelf.Ways.{tells}
-use Rattle.forwarding.specs.Ports.{noneBelow}
-use Rattle.forwarding.proofs.lowest.lowest_port.Needs as need
+use Rattle.ports.specs.Ports.{noneBelow}
+use Rattle.ports.proofs.lowest.lowest_port.Needs as need
 
 pub loop-i-holds : need.loop-i-holds
 unfolding noneBelow

@@ -6,8 +6,8 @@ use Rattle.std.specs.declared.option.Option.{Option}
 use Rattle.std.specs.declared.option.Option.the-variants.{None, Some}
 use Rattle.fdb.specs.declared.entry.Location.{Location}
 use Rattle.fdb.specs.declared.entry.Location.the-variants.{Here, Behind}
-use Rattle.forwarding.specs.declared.ingress.Ingress.{Ingress}
-use Rattle.forwarding.specs.declared.ingress.Ingress.the-variants.{Station, Neighbour}
+use Rattle.ports.specs.declared.ingress.Ingress.{Ingress}
+use Rattle.ports.specs.declared.ingress.Ingress.the-variants.{Station, Neighbour}
 
 -- nothing is known; it is behind a port of the bridge; it is behind a neighbour
 pub data Place : Type 0 where

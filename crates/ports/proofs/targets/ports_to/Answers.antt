@@ -1,10 +1,10 @@
 use mathlib.Core.Path.{sym, ap, _∙_}
 use borrow.Author.Needs.{needs}
 use Rattle.sets.specs.Sets.{has}
-use Rattle.forwarding.specs.Ports.{portsOf}
-use Rattle.forwarding.proofs.Onward.{one-more, none-more}
-use Rattle.forwarding.proofs.targets.ports_to.Needs as need
-use Rattle.forwarding.proofs.targets.ports_to.Needs.{then-contains, else-contains}
+use Rattle.ports.specs.Ports.{portsOf}
+use Rattle.ports.proofs.Onward.{one-more, none-more}
+use Rattle.ports.proofs.targets.ports_to.Needs as need
+use Rattle.ports.proofs.targets.ports_to.Needs.{then-contains, else-contains}
 
 pub neighbours-again : need.neighbours-again
 neighbours-again c = elim (c .if-contains .came) [

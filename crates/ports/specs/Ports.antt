@@ -5,8 +5,8 @@ use mathlib.Core.List.{List, [], _∷_}
 use Prim.Native.Nat.{ℕ, zero, suc}
 use lib.Dec.{eqb, ltb}
 use lib.ListN.{getD}
-use Rattle.forwarding.specs.declared.port.Port.{Port}
-use Rattle.forwarding.specs.declared.port.Port.the-variants.{Unused, Access, Trunk}
+use Rattle.ports.specs.declared.port.Port.{Port}
+use Rattle.ports.specs.declared.port.Port.the-variants.{Unused, Access, Trunk}
 
 -- nothing is handed on by it; it leads to stations of a VLAN; it leads to a neighbour by a link that is up, or isn't
 pub data Kind : Type 0 where

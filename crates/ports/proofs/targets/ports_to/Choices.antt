@@ -4,8 +4,8 @@ use Prim.Native.Nat.{ℕ, _<_}
 use lib.Dec.{ltb}
 use lib.ListN.{length, getD}
 use Rattle.sets.specs.Sets.{has}
-use Rattle.forwarding.specs.Ports.{portsOf, onward}
-use Rattle.forwarding.proofs.targets.ports_to.Given as given
+use Rattle.ports.specs.Ports.{portsOf, onward}
+use Rattle.ports.proofs.targets.ports_to.Given as given
 
 -- what is left are the neighbours from c on, and the flags are those of the neighbours below c
 abbrev pub Inv-neighbours : given.InvT-neighbours

@@ -14,9 +14,9 @@ use Rattle.std.proofs.shelf.Ways.{tells}
 use Rattle.std.specs.Options.{Cases as BySome}
 use Rattle.std.specs.declared.option.Option.{Option}
 use Rattle.std.specs.declared.option.Option.the-variants.{None, Some}
-use Rattle.forwarding.specs.declared.port.PortId.{PortId}
-use Rattle.forwarding.specs.Ports.{Kind, Idle, ToStations, ToBridge, leadsTo, noneBelow, onward, onwardBy}
-use Rattle.forwarding.specs.Flags.{marked}
+use Rattle.ports.specs.declared.port.PortId.{PortId}
+use Rattle.ports.specs.Ports.{Kind, Idle, ToStations, ToBridge, leadsTo, noneBelow, onward, onwardBy}
+use Rattle.ports.specs.Flags.{marked}
 
 pub none-below : (port : ℕ → Kind) (c n p : ℕ) → noneBelow port c n ≡ true → p < n → leadsTo (port p) c ≡ false
 unfolding noneBelow
