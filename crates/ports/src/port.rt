@@ -36,7 +36,7 @@ impl PortId {
     pub fn index(self) -> usize
         ensures { λ r. ⌜ r ≡ self .value ⌝ ∗ ⌜ r < 16 ⌝ }
     {
-        self.value as usize
+        usize::from(self.value)
     }
 }
 

@@ -35,6 +35,6 @@ impl Vlan {
     pub fn is(self, other: Vlan) -> bool
         ensures { λ r. ⌜ r ≡ eqb (self .value) (other .value) ⌝ }
     {
-        self.value == other.value
+        other.value == self.value
     }
 }
