@@ -18,7 +18,7 @@ use Rattle.trees.proofs.Simple.{below-1, below-2, joined-apart}
 use Rattle.trees.proofs.Ahead.{leads, Leads, is-leads, leads-is, leads-on, leads-not-back}
 use Rattle.bridges.specs.Promise.{topWay, onWay, NotWrong, Rests, countGot, noneOf}
 use Rattle.bridges.specs.Guarantee.{countAll, moves, stays, origin, quiet, quietly, forgets, remembered}
-use Rattle.bridges.proofs.Changes.{cond-by, Pick, now, later, pick-mem, without-mem, Refused, arrive-by, announce-by, adopt-by, send-by}
+use Rattle.bridges.proofs.Changes.{cond-by, goes-is, Pick, now, later, pick-mem, without-mem, Refused, arrive-by, announce-by, adopt-by, send-by}
 use Rattle.bridges.proofs.Keeps.{Walks, Keeps, keeps, tree-stays}
 use Rattle.bridges.proofs.Counts.{one, one-same, count, count-append, count-pick, count-none, count-same, countBelow, below-has, floods-count, handed-count}
 use Rattle.bridges.proofs.Vlan.{CarriedOf, Carried, carried-step, next-grows}
@@ -118,12 +118,6 @@ frame-of r f s d n = record { number = f; from = s; to = d; colour = r .colour s
 
 frame-tree : (r : Rules) (f s d n : ℕ) {x : Frame} → x ≡ frame-of r f s d n → x .tree ≡ n
 frame-tree r f s d n e = ap (λ y. y .tree) e
-
-goes-is : (lax : Bool) (x : Copy) (k : Where) → (x .frame .from ≡ x .frame .to → ⊥) → goesBy lax x k ≡ k
-goes-is lax x k ne = cond-by (not lax && eqb (x .frame .from) (x .frame .to)) (λ v. v ≡ k) (cameBy (x .trail)) k (λ h. absurd (ne (eqb-true _ _ (two-of (not lax) _ h)))) (λ _. refl)
-  where
-    two-of : (a b : Bool) → (a && b) ≡ true → b ≡ true
-    two-of a b h = grind arith
 
 -- who is handed a frame to a station that is known
 known-only : (lax : Bool) (r : Rules) (v : World) (x : Copy) (k : Where) (s : ℕ) → (k ≡ Unknown → ⊥) → mayHand lax r v x k s ≡ true → s ≡ x .frame .to

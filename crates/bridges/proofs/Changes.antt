@@ -33,6 +33,54 @@ without-mem (suc i) [] m = m
 without-mem zero (y ∷ ys) m = List·Memᴰ·tail m
 without-mem (suc i) (y ∷ ys) m = elim (List·Memᴰ·cases-cons m) [ inl e ↦ List·Memᴰ·head e | inr m′ ↦ List·Memᴰ·tail (without-mem i ys m′) ]
 
+-- a bridge that doesn't have the tree drops a copy, and one that has it doesn't
+pub receive-drops : (lax : Bool) (r : Rules) (x : Copy) (t : Tree) (w : World) → isIn (x .frame .tree) (w .holds (x .at)) ≡ false → receive lax r x (This t) w ≡ w
+receive-drops lax r x t w e = rw e
+
+pub receive-takes : (lax : Bool) (r : Rules) (x : Copy) (t : Tree) (w : World) → isIn (x .frame .tree) (w .holds (x .at)) ≡ true → receive lax r x (This t) w ≡ forward lax r x t w
+receive-takes lax r x t w e = rw e
+
+-- what doesn't look like a tree isn't adopted
+pub adopt-refuses : (lax : Bool) (r : Rules) (b n : ℕ) (t : Tree) (w : World) → looks (r .bridges) t ≡ false → adoptIf lax r b n (This t) w ≡ w
+adopt-refuses lax r b n t w e = rw e
+
+-- one entry of a table is written: that of a bridge, a tree and a station
+pub at3-tells : {A : Type 0} (i j k : ℕ) (x : A) (f : ℕ → ℕ → ℕ → A) (p q s : ℕ) → ((p ≡ i) × (q ≡ j) × (s ≡ k) × (at3 i j k x f p q s ≡ x)) ⊎ (at3 i j k x f p q s ≡ f p q s)
+at3-tells i j k x f p q s = grind (arith, tells)
+
+-- forgetting writes nothing but that nothing is known
+pub forget-tells : (lax : Bool) (r : Rules) (b n s : ℕ) (w : World) (p m q : ℕ) → (happen lax r (Forget b n s) w .learned p m q ≡ Unknown) ⊎ (happen lax r (Forget b n s) w .learned p m q ≡ w .learned p m q)
+forget-tells lax r b n s w p m q = grind arith
+
+pub crash-tells : (lax : Bool) (r : Rules) (b : ℕ) (w : World) (p m q : ℕ) → (happen lax r (Crash b) w .learned p m q ≡ Unknown) ⊎ (happen lax r (Crash b) w .learned p m q ≡ w .learned p m q)
+crash-tells lax r b w p m q = grind arith
+
+-- a bridge goes by what it has learnt, or by whence the frame came
+pub goes-tells : (lax : Bool) (x : Copy) (k : Where) → (goesBy lax x k ≡ cameBy (x .trail)) ⊎ (goesBy lax x k ≡ k)
+goes-tells lax x k = grind arith
+
+-- a frame that isn't to its sender goes by what is learnt
+pub goes-is : (lax : Bool) (x : Copy) (k : Where) → (x .frame .from ≡ x .frame .to → ⊥) → goesBy lax x k ≡ k
+goes-is lax x k ne = grind (arith, tells)
+
+-- who came by c has the way it came from behind c
+pub came-from : (c : ℕ) (bs : List ℕ) → cameBy (c ∷ bs) ≡ Behind c
+came-from c bs = refl
+
+-- not back is not to where it came from
+pub not-back-is : (a : ℕ) (bs : List ℕ) (c : ℕ) → notBack (a ∷ bs) c ≡ true → eqb c a ≡ false
+not-back-is a bs c h = grind (arith, tells)
+
+-- a copy goes on along the tree, by a link that is up, and not back
+pub floods-tells : (c : ℕ) (t : Tree) (up : ℕ → ℕ → Bool) (x : Copy) → (floods (suc c) t up x ≡ floods c t up x) ⊎
+    ((floods (suc c) t up x ≡ copyTo x c ∷ floods c t up x) × (joined t (x .at) c ≡ true) × (up (x .at) c ≡ true) × (notBack (x .trail) c ≡ true))
+unfolding floods
+floods-tells c t up x = grind arith
+
+pub toward-tells : (t : Tree) (up : ℕ → ℕ → Bool) (x : Copy) (c n : ℕ) → (toward t up x (Behind c) n ≡ []) ⊎
+    ((toward t up x (Behind c) n ≡ copyTo x c ∷ []) × (joined t (x .at) c ≡ true) × (up (x .at) c ≡ true) × (notBack (x .trail) c ≡ true))
+toward-tells t up x c n = grind arith
+
 -- why a bridge drops a copy: its tree was never announced, or the bridge doesn't have it
 abbrev pub Refused : World → Copy → Type 0
 Refused w x = (treeOf (x .frame .tree) (w .trees) ≡ NoTree) ⊎ (isIn (x .frame .tree) (w .holds (x .at)) ≡ false)
@@ -42,7 +90,11 @@ module _ (lax : Bool) (r : Rules) (P : World → Type 0) where
       ((t : Tree) → treeOf (x .frame .tree) (w .trees) ≡ This t → isIn (x .frame .tree) (w .holds (x .at)) ≡ true → P (forward lax r x t w)) →
       (f : Found) → treeOf (x .frame .tree) (w .trees) ≡ f → P (receive lax r x f w)
   receive-by x w drop go NoTree e = drop (inl e)
-  receive-by x w drop go (This t) e = cond-by _ P (forward lax r x t w) w (λ h. go t e h) (λ h. drop (inr h))
+  receive-by x w drop go (This t) e = by (isIn (x .frame .tree) (w .holds (x .at))) refl
+    where
+      by : (b : Bool) → isIn (x .frame .tree) (w .holds (x .at)) ≡ b → P (receive lax r x (This t) w)
+      by true h = subst P (sym (receive-takes lax r x t w h)) (go t e h)
+      by false h = subst P (sym (receive-drops lax r x t w h)) (drop (inr h))
 
   -- a copy arrives: there is none at that place, or it is dropped, or it is handed on
   pub arrive-by : (i : ℕ) (xs : List Copy) (w : World) → (((x : Copy) → Pick x i xs → ⊥) → P w) → ((x : Copy) → Pick x i xs → Refused w x → P w) →
@@ -78,11 +130,12 @@ module _ (lax : Bool) (r : Rules) (P : World → Type 0) where
       P (adoptIf lax r b n (treeOf n (w .trees)) w)
   adopt-by b n w old new = go (treeOf n (w .trees)) refl
     where
-      tree-looks : (x y : Bool) → (not x || y) ≡ false → x ≡ true
-      tree-looks x y e = grind arith
+      by : (t : Tree) → treeOf n (w .trees) ≡ This t → (x : Bool) → looks (r .bridges) t ≡ x → P (adoptIf lax r b n (This t) w)
+      by t e true l = cond-by _ P w _ (λ _. old) (λ _. new t e l)
+      by t e false l = subst P (sym (adopt-refuses lax r b n t w l)) old
       go : (f : Found) → treeOf n (w .trees) ≡ f → P (adoptIf lax r b n f w)
       go NoTree e = old
-      go (This t) e = cond-by _ P w _ (λ _. old) (λ h. new t e (tree-looks _ _ h))
+      go (This t) e = by t e (looks (r .bridges) t) refl
 
   -- a station sends: both are there, it is plugged in, and its bridge has a tree
   pub send-by : (s d : ℕ) (w : World) → P w →

@@ -14,7 +14,7 @@ use Rattle.trees.specs.Tree.{Tree, looks, joined, Walk, here, first, on, isIn, 
 use Rattle.bridges.specs.Net.{Frame, Copy, Where, Unknown, Here, Behind, Got, Rules, World, Found, NoTree, This, at, at2, at3, treeOf, cameBy, notBack, copyTo, floods, toward, mayGet, knows, learns, without, with-copies, two, sendBy, announceIf, start}
 use Rattle.bridges.specs.Fabric.{Event, Send, Arrive, Lose, Believe, Announce, Adopt, Move, Forget, Crash, Turn, goesBy, mayHand, handed, forward, receive, arrives, isNewest, adoptIf, turned, happen, run}
 use Rattle.trees.proofs.Simple.{below-1, below-rest, below-2}
-use Rattle.bridges.proofs.Changes.{cond-by, Pick, pick-mem, without-mem, Refused, arrive-by, announce-by, adopt-by, send-by}
+use Rattle.bridges.proofs.Changes.{cond-by, at3-tells, forget-tells, crash-tells, goes-tells, not-back-is, floods-tells, toward-tells, Pick, pick-mem, without-mem, Refused, arrive-by, announce-by, adopt-by, send-by}
 
 pub record Known (r : Rules) (trees : List Tree) (n : ℕ) : Type 0 where
   pub t : Tree
@@ -51,13 +51,9 @@ pub record Onward (t : Tree) (up : ℕ → ℕ → Bool) (x : Copy) (k : Where) 
   pub forth : notBack (x .trail) to ≡ true
   pub place : (to < n) ⊎ (k ≡ Behind to)
 
-three : (p q s : Bool) → (p && (q && s)) ≡ true → (p ≡ true) × (q ≡ true) × (s ≡ true)
-three p q s h = grind arith
-
 onward : (t : Tree) (up : ℕ → ℕ → Bool) (x : Copy) (k : Where) (n c : ℕ) (y : Copy) → y ≡ copyTo x c → (c < n) ⊎ (k ≡ Behind c) →
-    (joined t (x .at) c && (up (x .at) c && notBack (x .trail) c)) ≡ true → Onward t up x k n y
-onward t up x k n c y e p h =
-    let j = three (joined t (x .at) c) (up (x .at) c) (notBack (x .trail) c) h in record { to = c; is = e; by = j .0; open-link = j .1; forth = j .2; place = p }
+    (joined t (x .at) c ≡ true) → (up (x .at) c ≡ true) → (notBack (x .trail) c ≡ true) → Onward t up x k n y
+onward t up x k n c y e p j u b = record { to = c; is = e; by = j; open-link = u; forth = b; place = p }
 
 wider : {t : Tree} {up : ℕ → ℕ → Bool} {x : Copy} {k : Where} {n : ℕ} {y : Copy} → Onward t up x k n y → Onward t up x k (suc n) y
 wider {k} {n} o = record { to = o .to; is = o .is; by = o .by; open-link = o .open-link; forth = o .forth; place = go (o .place) }
@@ -72,16 +68,16 @@ one-more c = omega arith
 floods-mem : (n : ℕ) (t : Tree) (up : ℕ → ℕ → Bool) (x y : Copy) → List·Memᴰ y (floods n t up x) → Onward t up x Unknown n y
 unfolding floods
 floods-mem zero t up x y m = absurd (List·Memᴰ·not-nil m)
-floods-mem (suc c) t up x y m = cond-by (joined t (x .at) c && (up (x .at) c && notBack (x .trail) c)) (λ ys. List·Memᴰ y ys → Onward t up x Unknown (suc c) y) _ _
-    (λ h m. elim (List·Memᴰ·cases-cons m) [ inl e ↦ onward t up x Unknown (suc c) c y e (inl (one-more c)) h | inr m′ ↦ wider (floods-mem c t up x y m′) ])
-    (λ _ m. wider (floods-mem c t up x y m)) m
+floods-mem (suc c) t up x y m = elim (floods-tells c t up x) [
+    inl e ↦ wider (floods-mem c t up x y (subst (List·Memᴰ y) e m))
+  | inr h ↦ elim (List·Memᴰ·cases-cons (subst (List·Memᴰ y) (h .0) m)) [ inl e ↦ onward t up x Unknown (suc c) c y e (inl (one-more c)) (h .1) (h .2) (h .3) | inr m′ ↦ wider (floods-mem c t up x y m′) ] ]
 
 pub toward-mem : (t : Tree) (up : ℕ → ℕ → Bool) (x : Copy) (k : Where) (n : ℕ) (y : Copy) → List·Memᴰ y (toward t up x k n) → Onward t up x k n y
 toward-mem t up x Unknown n y m = floods-mem n t up x y m
 toward-mem t up x Here n y m = absurd (List·Memᴰ·not-nil m)
-toward-mem t up x (Behind c) n y m = cond-by (joined t (x .at) c && (up (x .at) c && notBack (x .trail) c)) (λ ys. List·Memᴰ y ys → Onward t up x (Behind c) n y) _ _
-    (λ h m. elim (List·Memᴰ·cases-cons m) [ inl e ↦ onward t up x (Behind c) n c y e (inr refl) h | inr m′ ↦ absurd (List·Memᴰ·not-nil m′) ])
-    (λ _ m. absurd (List·Memᴰ·not-nil m)) m
+toward-mem t up x (Behind c) n y m = elim (toward-tells t up x c n) [
+    inl e ↦ absurd (List·Memᴰ·not-nil (subst (List·Memᴰ y) e m))
+  | inr h ↦ elim (List·Memᴰ·cases-cons (subst (List·Memᴰ y) (h .0) m)) [ inl e ↦ onward t up x (Behind c) n c y e (inr refl) (h .1) (h .2) (h .3) | inr m′ ↦ absurd (List·Memᴰ·not-nil m′) ] ]
 
 -- what is handed to stations
 pub handed-mem : (lax : Bool) (r : Rules) (w : World) (x : Copy) (k : Where) (n : ℕ) (g : Got) → List·Memᴰ g (handed lax r w x k n) →
@@ -96,10 +92,7 @@ handed-mem lax r w x k (suc s) g m =
 -- going on from a walk
 walk-on : (t : Tree) (b c : ℕ) (bs : List ℕ) → Walk t (b ∷ bs) → joined t b c ≡ true → notBack bs c ≡ true → Walk t (c ∷ (b ∷ bs))
 walk-on t b c [] w j nb = first c j
-walk-on t b c (a ∷ bs) w j nb = on c w j (turn a c nb)
-  where
-    turn : (a c : ℕ) → not (eqb a c) ≡ true → eqb c a ≡ false
-    turn a c h = grind (arith, tells)
+walk-on t b c (a ∷ bs) w j nb = on c w j (not-back-is a bs c nb)
 
 all-below : (n c : ℕ) (bs : List ℕ) → c < n → allBelow n bs ≡ true → allBelow n (c ∷ bs) ≡ true
 unfolding allBelow
@@ -112,8 +105,7 @@ came-behind r (suc n) b (a ∷ bs) h z c e = let q = below-2 (suc n) b a bs (h (
 
 pub goes-behind : (lax : Bool) (r : Rules) (trees : List Tree) (x : Copy) (k : Where) → Walks r trees x → ((c : ℕ) → k ≡ Behind c → (c < r .bridges) ⊎ (c ≡ x .at)) →
     (c : ℕ) → goesBy lax x k ≡ Behind c → (c < r .bridges) ⊎ (c ≡ x .at)
-goes-behind lax r trees x k o h c = cond-by (not lax && eqb (x .frame .from) (x .frame .to)) (λ v. v ≡ Behind c → (c < r .bridges) ⊎ (c ≡ x .at)) _ _
-    (λ _ e. inl (came-behind r (r .bridges) (x .at) (x .trail) (o .inside) (o .still) c e)) (λ _ e. h c e)
+goes-behind lax r trees x k o h c e = elim (goes-tells lax x k) [ inl q ↦ inl (came-behind r (r .bridges) (x .at) (x .trail) (o .inside) (o .still) c (sym q ∙ e)) | inr q ↦ h c (sym q ∙ e) ]
 
 -- each copy that a bridge makes of one that is on a walk is on a walk
 pub walks-on : (r : Rules) (trees : List Tree) (up : ℕ → ℕ → Bool) (x : Copy) (t : Tree) (k : Where) → treeOf (x .frame .tree) trees ≡ This t → Walks r trees x →
@@ -174,10 +166,8 @@ module _ (lax : Bool) (r : Rules) where
   keeps-forward x t w k o lt e = record {
     homes = k .homes;
     held = k .held;
-    behind = λ b n s c. cond-by (eqb b (x .at) && (eqb n (x .frame .tree) && eqb s (x .frame .from))) (λ v. v ≡ Behind c → (c < r .bridges) ⊎ (c ≡ b)) (cameBy (x .trail)) (w .learned b n s)
-      (λ _ q. inl (came-behind r (r .bridges) (x .at) (x .trail) (o .inside) (o .still) c q)) (λ _ q. k .behind b n s c q);
-    blank = λ b n s z. cond-by (eqb b (x .at) && (eqb n (x .frame .tree) && eqb s (x .frame .from))) (λ v. v ≡ Unknown) (cameBy (x .trail)) (w .learned b n s)
-      (λ h. absurd (no-such b n s h z)) (λ _. k .blank b n s z);
+    behind = λ b n s c q. elim (heard b n s) [ inl h ↦ inl (came-behind r (r .bridges) (x .at) (x .trail) (o .inside) (o .still) c (sym (h .3) ∙ q)) | inr h ↦ k .behind b n s c (sym h ∙ q) ];
+    blank = λ b n s z. elim (heard b n s) [ inl h ↦ absurd (no-such (h .1) z) | inr h ↦ h ∙ k .blank b n s z ];
     walks = λ y m. elim (List·Memᴰ·append-cases (toward t (w .up) x known (r .bridges)) m) [ inl m′ ↦ walks-on r (w .trees) (w .up) x t known e o by y (toward-mem t (w .up) x known (r .bridges) y m′) | inr m′ ↦ k .walks y m′ ];
     fresh = λ y m. elim (List·Memᴰ·append-cases (toward t (w .up) x known (r .bridges)) m) [ inl m′ ↦ new-fresh y (toward-mem t (w .up) x known (r .bridges) y m′) | inr m′ ↦ k .fresh y m′ ];
     old = λ g m. elim (List·Memᴰ·append-cases (handed lax r w x known (r .stations)) m) [ inl m′ ↦ new-old g (handed-mem lax r w x known (r .stations) g m′) | inr m′ ↦ k .old g m′ ];
@@ -187,11 +177,10 @@ module _ (lax : Bool) (r : Rules) where
       known = goesBy lax x (knows w x)
       by : (c : ℕ) → known ≡ Behind c → (c < r .bridges) ⊎ (c ≡ x .at)
       by c q = goes-behind lax r (w .trees) x (knows w x) o (λ d. k .behind (x .at) (x .frame .tree) (x .frame .to) d) c q
-      no-such : (b n s : ℕ) → (eqb b (x .at) && (eqb n (x .frame .tree) && eqb s (x .frame .from))) ≡ true → treeOf n (w .trees) ≡ NoTree → ⊥
-      no-such b n s h z = let q = subst (λ m. treeOf m (w .trees) ≡ NoTree) (same b n s (x .at) (x .frame .tree) (x .frame .from) h) z in grind arith
-        where
-          same : (b n s b2 n2 s2 : ℕ) → (eqb b b2 && (eqb n n2 && eqb s s2)) ≡ true → n ≡ n2
-          same b n s b2 n2 s2 h = grind (arith, tells)
+      heard : (b n s : ℕ) → ((b ≡ x .at) × (n ≡ x .frame .tree) × (s ≡ x .frame .from) × (learns x (w .learned) b n s ≡ cameBy (x .trail))) ⊎ (learns x (w .learned) b n s ≡ w .learned b n s)
+      heard b n s = at3-tells (x .at) (x .frame .tree) (x .frame .from) (cameBy (x .trail)) (w .learned) b n s
+      no-such : {n : ℕ} → n ≡ x .frame .tree → treeOf n (w .trees) ≡ NoTree → ⊥
+      no-such q z = let y = subst (λ m. treeOf m (w .trees) ≡ NoTree) q z in grind arith
       new-fresh : (y : Copy) → Onward t (w .up) x known (r .bridges) y → y .frame .number < w .next
       new-fresh y o′ = subst (λ z. z .frame .number < w .next) (sym (o′ .is)) lt
       new-old : (g : Got) → (s : ℕ) × (g ≡ record { frame = x .frame .number; station = s; bridge = x .at }) × (mayHand lax r w x known s ≡ true) → g .frame < w .next
@@ -202,12 +191,14 @@ module _ (lax : Bool) (r : Rules) where
   keeps-send s d n ns w k e on-net = record {
     homes = k .homes; held = k .held; behind = k .behind; blank = k .blank;
     walks = λ y m. elim (List·Memᴰ·cases-cons m) [ inl q ↦ subst (λ z. Walks r (w .trees) z) (sym q) (new (k .held (w .home s) n (subst (λ hs. isIn n hs ≡ true) (sym e) (first-in n ns)))) | inr m′ ↦ k .walks y m′ ];
-    fresh = λ y m. elim (List·Memᴰ·cases-cons m) [ inl q ↦ subst (λ z. z .frame .number < suc (w .next)) (sym q) (one-more (w .next)) | inr m′ ↦ up-one _ _ (k .fresh y m′) ];
-    old = λ g m. up-one _ _ (k .old g m);
+    fresh = λ y m. elim (List·Memᴰ·cases-cons m) [ inl q ↦ subst (λ z. z .frame .number < sendBy r s d (n ∷ ns) w .next) (sym q) newest | inr m′ ↦ up-one (y .frame .number) (k .fresh y m′) ];
+    old = λ g m. up-one (g .frame) (k .old g m);
   }
     where
-      up-one : (a b : ℕ) → a < b → a < suc b
-      up-one a b h = omega arith
+      newest : w .next < sendBy r s d (n ∷ ns) w .next
+      newest = omega arith
+      up-one : (a : ℕ) → a < w .next → a < sendBy r s d (n ∷ ns) w .next
+      up-one a h = omega arith
       new : Known r (w .trees) n → Walks r (w .trees) (record { frame = record { number = w .next; from = s; to = d; colour = r .colour s; tree = n }; at = w .home s; trail = [] })
       new h = record { t = h .t; is = h .is; good = h .good; walk = here (w .home s); inside = λ p. all-below (r .bridges) (w .home s) [] (inside p) nothing; still = λ _. refl }
         where
@@ -241,8 +232,8 @@ module _ (lax : Bool) (r : Rules) where
       there x a b h l = grind (arith, tells)
   keeps-step (Forget b n s) w k = record {
     homes = k .homes; held = k .held;
-    behind = λ p m q c. cond-by (eqb p b && (eqb m n && eqb q s)) (λ v. v ≡ Behind c → (c < r .bridges) ⊎ (c ≡ p)) Unknown (w .learned p m q) (λ _ e. absurd (unknown e)) (λ _ e. k .behind p m q c e);
-    blank = λ p m q z. cond-by (eqb p b && (eqb m n && eqb q s)) (λ v. v ≡ Unknown) Unknown (w .learned p m q) (λ _. refl) (λ _. k .blank p m q z);
+    behind = λ p m q c e. elim (forget-tells lax r b n s w p m q) [ inl h ↦ absurd (unknown (sym h ∙ e)) | inr h ↦ k .behind p m q c (sym h ∙ e) ];
+    blank = λ p m q z. elim (forget-tells lax r b n s w p m q) [ inl h ↦ h | inr h ↦ h ∙ k .blank p m q z ];
     walks = k .walks; fresh = k .fresh; old = k .old }
     where
       unknown : {c : ℕ} → Unknown ≡ Behind c → ⊥
@@ -250,8 +241,8 @@ module _ (lax : Bool) (r : Rules) where
   keeps-step (Crash b) w k = record {
     homes = k .homes;
     held = λ p m. cond-by (eqb p b) (λ hs. isIn m hs ≡ true → Known r (w .trees) m) [] (w .holds p) (λ _ h. absurd (nothing m h)) (λ _ h. k .held p m h);
-    behind = λ p m q c. cond-by (eqb p b) (λ v. v ≡ Behind c → (c < r .bridges) ⊎ (c ≡ p)) Unknown (w .learned p m q) (λ _ e. absurd (unknown e)) (λ _ e. k .behind p m q c e);
-    blank = λ p m q z. cond-by (eqb p b) (λ v. v ≡ Unknown) Unknown (w .learned p m q) (λ _. refl) (λ _. k .blank p m q z);
+    behind = λ p m q c e. elim (crash-tells lax r b w p m q) [ inl h ↦ absurd (unknown (sym h ∙ e)) | inr h ↦ k .behind p m q c (sym h ∙ e) ];
+    blank = λ p m q z. elim (crash-tells lax r b w p m q) [ inl h ↦ h | inr h ↦ h ∙ k .blank p m q z ];
     walks = k .walks; fresh = k .fresh; old = k .old }
     where
       unknown : {c : ℕ} → Unknown ≡ Behind c → ⊥

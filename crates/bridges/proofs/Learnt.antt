@@ -18,7 +18,7 @@ use Rattle.trees.proofs.Simple.{AllUnder, NoneUnder, also, Way, rose, fell, way
 use Rattle.trees.proofs.Ahead.{below, leads, below-is, is-below, Leads, down, up, is-leads, leads-is}
 use Rattle.bridges.specs.Promise.{topWay, onWay, NotWrong}
 use Rattle.bridges.specs.Guarantee.{moves, stays, origin}
-use Rattle.bridges.proofs.Changes.{cond-by, Pick, pick-mem, without-mem, arrive-by, announce-by, adopt-by, send-by}
+use Rattle.bridges.proofs.Changes.{cond-by, at3-tells, forget-tells, crash-tells, came-from, Pick, pick-mem, without-mem, arrive-by, announce-by, adopt-by, send-by}
 use Rattle.bridges.proofs.Keeps.{Walks, Keeps, keeps, tree-stays, Onward, toward-mem}
 use Rattle.bridges.proofs.Twice.{walk-joined, stays-home}
 use Rattle.bridges.proofs.TopWays.{on-way-is}
@@ -65,7 +65,7 @@ way-back n t b c bs l out g w = on-way-is n t l out b (origin c bs) c ∙ both _
 came-right : (n : ℕ) (t : Tree) (h b : ℕ) (bs : List ℕ) → looks n t ≡ true → ((b : ℕ) → n ≤ b → t .above b ≡ b) → allBelow n (b ∷ bs) ≡ true → Walk t (b ∷ bs) → origin b bs ≡ h → Right n t h b (cameBy bs)
 unfolding origin
 came-right n t h b [] l out g w e = sym e
-came-right n t h b (c ∷ bs) l out g w e = subst (λ z. onWay n t b z c ≡ true) e (way-back n t b c bs l out g w)
+came-right n t h b (c ∷ bs) l out g w e = subst (Right n t h b) (sym (came-from c bs)) (subst (λ z. onWay n t b z c ≡ true) e (way-back n t b c bs l out g w))
 
 -- of a station s, along a tree t
 pub record LearntOf (r : Rules) (t : Tree) (s : ℕ) (home : ℕ → ℕ) (trees : List Tree) (learned : ℕ → ℕ → ℕ → Where) (copies : List Copy) : Type 0 where
@@ -76,9 +76,6 @@ pub record LearntOf (r : Rules) (t : Tree) (s : ℕ) (home : ℕ → ℕ) (trees
 abbrev pub Learnt : Rules → Tree → ℕ → World → Type 0
 Learnt r t s w = LearntOf r t s (w .home) (w .trees) (w .learned) (w .copies)
 
-three : (a b c d e f : ℕ) → (eqb a d && (eqb b e && eqb c f)) ≡ true → (a ≡ d) × (b ≡ e) × (c ≡ f)
-three a b c d e f h = grind (arith, tells)
-
 module _ (lax : Bool) (r : Rules) (t : Tree) (s : ℕ) (out : (b : ℕ) → r .bridges ≤ b → t .above b ≡ b) where
   learnt-less : (i : ℕ) (w : World) → Learnt r t s w → Learnt r t s (with-copies (without i (w .copies)) w)
   learnt-less i w k = record { is = k .is; begun = λ x m. k .begun x (without-mem i (w .copies) m); right = k .right }
@@ -87,8 +84,9 @@ module _ (lax : Bool) (r : Rules) (t : Tree) (s : ℕ) (out : (b : ℕ) → r .b
   learnt-forward x u w o og k = record {
     is = k .is;
     begun = λ y m. elim (List·Memᴰ·append-cases (toward u (w .up) x known (r .bridges)) m) [ inl m′ ↦ made y (toward-mem u (w .up) x known (r .bridges) y m′) | inr m′ ↦ k .begun y m′ ];
-    right = λ b lt. cond-by (eqb b (x .at) && (eqb (t .number) (x .frame .tree) && eqb s (x .frame .from))) (Right (r .bridges) t (w .home s) b) (cameBy (x .trail)) (w .learned b (t .number) s)
-      (λ h. heard b lt (three b (t .number) s (x .at) (x .frame .tree) (x .frame .from) h)) (λ _. k .right b lt);
+    right = λ b lt. elim (at3-tells (x .at) (x .frame .tree) (x .frame .from) (cameBy (x .trail)) (w .learned) b (t .number) s) [
+        inl h ↦ subst (Right (r .bridges) t (w .home s) b) (sym (h .3)) (heard b lt (h .0, h .1, h .2))
+      | inr h ↦ subst (Right (r .bridges) t (w .home s) b) (sym h) (k .right b lt) ];
   }
     where
       known : Where
@@ -125,9 +123,9 @@ module _ (lax : Bool) (r : Rules) (t : Tree) (s : ℕ) (out : (b : ℕ) → r .b
       home-is : cond (eqb s a) b (w .home s) ≡ w .home s
       home-is = ap (λ x. cond x b (w .home s)) (other a s mv)
   learnt-step (Forget b n a) w kp mv k = record { is = k .is; begun = k .begun;
-    right = λ c lt. cond-by (eqb c b && (eqb (t .number) n && eqb s a)) (Right (r .bridges) t (w .home s) c) Unknown (w .learned c (t .number) s) (λ _. tt) (λ _. k .right c lt) }
+    right = λ c lt. elim (forget-tells lax r b n a w c (t .number) s) [ inl h ↦ subst (Right (r .bridges) t (w .home s) c) (sym h) tt | inr h ↦ subst (Right (r .bridges) t (w .home s) c) (sym h) (k .right c lt) ] }
   learnt-step (Crash b) w kp mv k = record { is = k .is; begun = k .begun;
-    right = λ c lt. cond-by (eqb c b) (Right (r .bridges) t (w .home s) c) Unknown (w .learned c (t .number) s) (λ _. tt) (λ _. k .right c lt) }
+    right = λ c lt. elim (crash-tells lax r b w c (t .number) s) [ inl h ↦ subst (Right (r .bridges) t (w .home s) c) (sym h) tt | inr h ↦ subst (Right (r .bridges) t (w .home s) c) (sym h) (k .right c lt) ] }
   learnt-step (Turn b n a ok) w kp mv k = record { is = k .is; begun = k .begun;
     right = λ c lt. cond-by (eqb c b && (eqb (t .number) n && eqb s a)) (Right (r .bridges) t (w .home s) c) (turned b ok (w .learned c (t .number) s)) (w .learned c (t .number) s)
       (λ h. absurd (other (eqb c b) (eqb (t .number) n) h mv)) (λ _. k .right c lt) }

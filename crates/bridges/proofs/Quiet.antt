@@ -13,7 +13,7 @@ use Rattle.trees.specs.Tree.{Tree, looks, joined, Walk, here, first, on, isIn, 
 use Rattle.bridges.specs.Net.{Frame, Copy, Where, Unknown, Here, Behind, Got, Rules, World, Found, NoTree, This, at, at2, at3, treeOf, cameBy, notBack, copyTo, floods, toward, mayGet, knows, learns, without, with-copies, two, sendBy, announceIf, start}
 use Rattle.bridges.specs.Fabric.{Event, Send, Arrive, Lose, Believe, Announce, Adopt, Move, Forget, Crash, Turn, goesBy, mayHand, handed, forward, receive, arrives, isNewest, adoptIf, turned, happen, run}
 use Rattle.bridges.specs.Guarantee.{moves, forgets, quiet, isCopyOf}
-use Rattle.bridges.proofs.Changes.{cond-by, Pick, now, later, pick-mem, without-mem, arrive-by, announce-by, adopt-by, send-by}
+use Rattle.bridges.proofs.Changes.{cond-by, at3-tells, Pick, now, later, pick-mem, without-mem, arrive-by, announce-by, adopt-by, send-by}
 use Rattle.bridges.proofs.Keeps.{handed-mem}
 use Rattle.bridges.proofs.Counts.{one, one-same, count}
 
@@ -94,13 +94,13 @@ quiet-known lax r t f d e w h g k = go e w h g k
     go : (e : Event) (w : World) → quiet t f d w e ≡ true → forgets (t .number) d e ≡ false → P w → P (happen lax r e w)
     go (Send a b) w h g k = send-by lax r P a b w k (λ _ _ _ _ _ _. k)
     go (Arrive i) w h g k = arrive-by lax r P i (w .copies) (with-copies (without i (w .copies)) w) (λ _. k) (λ _ _ _. k)
-        (λ x _ _ _ _ b lb. cond-by (eqb b (x .at) && (eqb (t .number) (x .frame .tree) && eqb d (x .frame .from))) (λ v. v ≡ Unknown → ⊥) (cameBy (x .trail)) (w .learned b (t .number) d) (λ _. came (x .trail)) (λ _. k b lb))
+        (λ x _ _ _ _ b lb q. elim (at3-tells (x .at) (x .frame .tree) (x .frame .from) (cameBy (x .trail)) (w .learned) b (t .number) d) [ inl h ↦ came (x .trail) (sym (h .3) ∙ q) | inr h ↦ k b lb (sym h ∙ q) ])
     go (Lose i) w h g k = k
     go (Believe a b c) w h g k = k
     go (Announce u) w h g k = announce-by lax r P u w k (λ _. k)
     go (Adopt b n) w h g k = adopt-by lax r P b n w k (λ _ _ _. k)
     go (Move a b) w h g k = cond-by (not lax || ltb b (r .bridges)) P _ w (λ _. k) (λ _. k)
-    go (Forget b n a) w h g k = λ p lp. cond-by (eqb p b && (eqb (t .number) n && eqb d a)) (λ v. v ≡ Unknown → ⊥) Unknown (w .learned p (t .number) d) (λ e _. other (eqb p b) (t .number) n d a e g) (λ _. k p lp)
+    go (Forget b n a) w h g k = λ p lp. cond-by (eqb p b && (eqb (t .number) n && eqb d a)) (λ v. v ≡ Unknown → ⊥) _ _ (λ e _. other (eqb p b) (t .number) n d a e g) (λ _. k p lp)
       where
         other : (x : Bool) (m n d a : ℕ) → (x && (eqb m n && eqb d a)) ≡ true → (eqb n m && eqb a d) ≡ false → ⊥
         other x m n d a p q = grind (arith, tells)

@@ -18,7 +18,7 @@ use Rattle.trees.proofs.Simple.{below-1, below-rest, below-2, joined-apart}
 use Rattle.trees.proofs.Ahead.{Leads, leads, leads-is, is-leads, leads-one, leads-within, leads-off, leads-here}
 use Rattle.bridges.specs.Promise.{countGot}
 use Rattle.bridges.specs.Guarantee.{countAll, moves, stays}
-use Rattle.bridges.proofs.Changes.{cond-by, Pick, pick-mem, without-mem, arrive-by, announce-by, adopt-by, send-by}
+use Rattle.bridges.proofs.Changes.{cond-by, not-back-is, Pick, pick-mem, without-mem, arrive-by, announce-by, adopt-by, send-by}
 use Rattle.bridges.proofs.Keeps.{Walks, Keeps, keeps, goes-behind, tree-stays, Onward, toward-mem}
 use Rattle.bridges.proofs.Counts.{one, one-same, count, count-append, count-pick, count-less, count-none, count-same, countBelow, below-some, below-none, below-one, floods-count, handed-count}
 
@@ -50,10 +50,7 @@ reach-before : (n : ℕ) (t : Tree) (h b c : ℕ) (bs : List ℕ) → looks n t 
 reach-before n t h b c [] l w g lc j nb e = refl
 reach-before n t h b c (a ∷ bs) l w g lc j nb e =
     let la = below-2 n b a bs g in let lb = below-1 n b (a ∷ bs) g in
-    is-leads n t l a b h la lb (walk-joined w) (leads-within n t l la lb lc (walk-joined w) (turn a c nb) (leads-is n t l b c h lb lc j e))
-  where
-    turn : (a c : ℕ) → not (eqb a c) ≡ true → c ≡ a → ⊥
-    turn a c h e = grind (arith, tells)
+    is-leads n t l a b h la lb (walk-joined w) (leads-within n t l la lb lc (walk-joined w) (eqb-false c a (not-back-is a bs c nb)) (leads-is n t l b c h lb lc j e))
 
 
 -- what one copy leads to counts no more than it does itself

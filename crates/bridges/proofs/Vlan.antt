@@ -90,10 +90,9 @@ may-colour lax r w x Here s h = grind (arith, tells)
 may-colour lax r w x (Behind c) s h = grind (arith, tells)
 
 may-other : (lax : Bool) (r : Rules) (w : World) (x : Copy) (k : Where) (s : ℕ) → mayHand lax r w x k s ≡ true → lax ≡ false → s ≡ x .frame .from → ⊥
-may-other lax r w x k s h l e = other lax (eqb s (x .frame .from)) (mayGet r w x k s) h l (eq-eqb _ _ e)
-  where
-    other : (x y z : Bool) → ((x || not y) && z) ≡ true → x ≡ false → y ≡ true → ⊥
-    other x y z = grind arith
+may-other lax r w x Unknown s h l e = grind (arith, tells)
+may-other lax r w x Here s h l e = grind (arith, tells)
+may-other lax r w x (Behind c) s h l e = grind (arith, tells)
 
 module _ (lax : Bool) (r : Rules) where
   rightly : (es : List Event) (w : World) (x : Copy) (k : Where) (s : ℕ) → Named lax r es (x .frame) → mayHand lax r w x k s ≡ true → Rightly lax r es (record { frame = x .frame .number; station = s; bridge = x .at })
