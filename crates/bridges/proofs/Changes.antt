@@ -1,21 +1,16 @@
 -- What each kind of event does, by cases: one lemma for each place where an event looks something up. Assumes nothing.
-use mathlib.Core.Path.{_≡_, refl, sym, subst, ap, _∙_}
-use mathlib.Core.Bool.{Bool, true, false, cond, _&&_, _||_, not}
+use mathlib.Core.Path.{_≡_, refl, sym, subst}
+use mathlib.Core.Bool.{Bool, true, false, _&&_, _||_, not}
 use mathlib.Core.Logic.{_⊎_, inl, inr}
-use mathlib.Core.List.{List, [], _∷_, _++_, List·Memᴰ, List·Memᴰ·head, List·Memᴰ·tail, List·Memᴰ·cases-cons, List·Memᴰ·not-nil, List·Memᴰ·append-cases, Memᴰ·append-left, Memᴰ·append-right}
-use Prim.Native.Nat.{ℕ, zero, suc, _+_, _<_, _≤_}
+use mathlib.Core.List.{List, [], _∷_, List·Memᴰ, List·Memᴰ·head, List·Memᴰ·tail, List·Memᴰ·cases-cons}
+use Prim.Native.Nat.{ℕ, zero, suc, _<_}
 use native.Mathlib.Omega.{arith}
-use native.Mathlib.Decide.{ℕ-discrete, decLt}
-use lib.Dec.{eqb, ltb, leb}
-use borrow.Author.Tests.{eqb-true, eqb-false, eq-eqb, ne-eqb, lt-ltb, le-ltb, ltb-true, ltb-false, both-ways}
+use lib.Dec.{eqb, ltb}
 use Rattle.std.proofs.shelf.Ways.{tells}
-use Rattle.trees.specs.Tree.{Tree, looks, joined, Walk, here, first, on, isIn, different, allBelow}
-use Rattle.bridges.specs.Net.{Frame, Copy, Where, Unknown, Here, Behind, Got, Rules, World, Found, NoTree, This, at, at2, at3, treeOf, cameBy, notBack, copyTo, floods, toward, mayGet, knows, learns, without, with-copies, two, sendBy, announceIf, start}
-use Rattle.bridges.specs.Fabric.{Event, Send, Arrive, Lose, Believe, Announce, Adopt, Move, Forget, Crash, Turn, goesBy, mayHand, handed, forward, receive, arrives, isNewest, adoptIf, turned, happen, run}
-
-pub cond-by : {A : Type 0} (b : Bool) (P : A → Type 0) (x y : A) → (b ≡ true → P x) → (b ≡ false → P y) → P (cond b x y)
-cond-by true P x y f g = f refl
-cond-by false P x y f g = g refl
+use Rattle.std.proofs.shelf.Tests.{cond-both}
+use Rattle.trees.specs.Tree.{Tree, looks, joined, on, isIn}
+use Rattle.bridges.specs.Net.{Copy, Where, Unknown, Behind, Rules, World, Found, NoTree, This, at, at3, treeOf, cameBy, notBack, copyTo, floods, toward, without, two, sendBy, announceIf}
+use Rattle.bridges.specs.Fabric.{Send, Forget, Crash, goesBy, handed, forward, receive, arrives, adoptIf, happen}
 
 -- the copy at a place of a list
 pub data Pick (x : Copy) : ℕ → List Copy → Type 0 where
@@ -35,14 +30,14 @@ without-mem (suc i) (y ∷ ys) m = elim (List·Memᴰ·cases-cons m) [ inl e ↦
 
 -- a bridge that doesn't have the tree drops a copy, and one that has it doesn't
 pub receive-drops : (lax : Bool) (r : Rules) (x : Copy) (t : Tree) (w : World) → isIn (x .frame .tree) (w .holds (x .at)) ≡ false → receive lax r x (This t) w ≡ w
-receive-drops lax r x t w e = rw e
+receive-drops lax r x t w e = grind arith
 
 pub receive-takes : (lax : Bool) (r : Rules) (x : Copy) (t : Tree) (w : World) → isIn (x .frame .tree) (w .holds (x .at)) ≡ true → receive lax r x (This t) w ≡ forward lax r x t w
-receive-takes lax r x t w e = rw e
+receive-takes lax r x t w e = grind arith
 
 -- what doesn't look like a tree isn't adopted
 pub adopt-refuses : (lax : Bool) (r : Rules) (b n : ℕ) (t : Tree) (w : World) → looks (r .bridges) t ≡ false → adoptIf lax r b n (This t) w ≡ w
-adopt-refuses lax r b n t w e = rw e
+adopt-refuses lax r b n t w e = grind arith
 
 -- one entry of a table is written: that of a bridge, a tree and a station
 pub at3-tells : {A : Type 0} (i j k : ℕ) (x : A) (f : ℕ → ℕ → ℕ → A) (p q s : ℕ) → ((p ≡ i) × (q ≡ j) × (s ≡ k) × (at3 i j k x f p q s ≡ x)) ⊎ (at3 i j k x f p q s ≡ f p q s)
@@ -131,7 +126,7 @@ module _ (lax : Bool) (r : Rules) (P : World → Type 0) where
   adopt-by b n w old new = go (treeOf n (w .trees)) refl
     where
       by : (t : Tree) → treeOf n (w .trees) ≡ This t → (x : Bool) → looks (r .bridges) t ≡ x → P (adoptIf lax r b n (This t) w)
-      by t e true l = cond-by _ P w _ (λ _. old) (λ _. new t e l)
+      by t e true l = cond-both _ w _ P (λ _. old) (λ _. new t e l)
       by t e false l = subst P (sym (adopt-refuses lax r b n t w l)) old
       go : (f : Found) → treeOf n (w .trees) ≡ f → P (adoptIf lax r b n f w)
       go NoTree e = old
@@ -142,7 +137,7 @@ module _ (lax : Bool) (r : Rules) (P : World → Type 0) where
       ((n : ℕ) (ns : List ℕ) → w .holds (w .home s) ≡ n ∷ ns → (lax || ltb (w .home s) (r .bridges)) ≡ true → s < r .stations → d < r .stations → P (sendBy r s d (n ∷ ns) w)) →
       P (happen lax r (Send s d) w)
   unfolding sendBy
-  send-by s d w old new = cond-by _ P (sendBy r s d (w .holds (w .home s)) w) w (λ h. go (parts _ (r .stations) h) (w .holds (w .home s)) refl) (λ _. old)
+  send-by s d w old new = cond-both _ (sendBy r s d (w .holds (w .home s)) w) w P (λ h. go (parts _ (r .stations) h) (w .holds (w .home s)) refl) (λ _. old)
     where
       parts : (p : Bool) (x : ℕ) → (p && (ltb s x && ltb d x)) ≡ true → (p ≡ true) × (s < x) × (d < x)
       parts p x h = grind (arith, tells)

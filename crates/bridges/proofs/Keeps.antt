@@ -1,20 +1,20 @@
 -- What holds after any events: homes are bridges, trees that are held look like trees, what is learnt names bridges of
 -- trees that were announced, and every copy is on a walk along its tree. Assumes nothing.
 use mathlib.Core.Path.{_≡_, refl, sym, subst, ap, _∙_}
-use mathlib.Core.Bool.{Bool, true, false, cond, _&&_, _||_, not}
+use mathlib.Core.Bool.{Bool, true, cond, _&&_, _||_, not}
 use mathlib.Core.Logic.{_⊎_, inl, inr}
-use mathlib.Core.List.{List, [], _∷_, _++_, List·Memᴰ, List·Memᴰ·head, List·Memᴰ·tail, List·Memᴰ·cases-cons, List·Memᴰ·not-nil, List·Memᴰ·append-cases, Memᴰ·append-left, Memᴰ·append-right}
-use Prim.Native.Nat.{ℕ, zero, suc, _+_, _<_, _≤_}
+use mathlib.Core.List.{List, [], _∷_, List·Memᴰ, List·Memᴰ·cases-cons, List·Memᴰ·not-nil, List·Memᴰ·append-cases}
+use Prim.Native.Nat.{ℕ, zero, suc, _<_}
 use native.Mathlib.Omega.{arith}
-use native.Mathlib.Decide.{ℕ-discrete, decLt}
-use lib.Dec.{eqb, ltb, leb}
-use borrow.Author.Tests.{eqb-true, eqb-false, eq-eqb, ne-eqb, lt-ltb, le-ltb, ltb-true, ltb-false, both-ways}
+use native.Mathlib.Decide.{ℕ-discrete}
+use lib.Dec.{eqb, ltb}
 use Rattle.std.proofs.shelf.Ways.{tells}
-use Rattle.trees.specs.Tree.{Tree, looks, joined, Walk, here, first, on, isIn, different, allBelow}
-use Rattle.bridges.specs.Net.{Frame, Copy, Where, Unknown, Here, Behind, Got, Rules, World, Found, NoTree, This, at, at2, at3, treeOf, cameBy, notBack, copyTo, floods, toward, mayGet, knows, learns, without, with-copies, two, sendBy, announceIf, start}
-use Rattle.bridges.specs.Fabric.{Event, Send, Arrive, Lose, Believe, Announce, Adopt, Move, Forget, Crash, Turn, goesBy, mayHand, handed, forward, receive, arrives, isNewest, adoptIf, turned, happen, run}
-use Rattle.trees.proofs.Simple.{below-1, below-rest, below-2}
-use Rattle.bridges.proofs.Changes.{cond-by, at3-tells, forget-tells, crash-tells, goes-tells, not-back-is, floods-tells, toward-tells, Pick, pick-mem, without-mem, Refused, arrive-by, announce-by, adopt-by, send-by}
+use Rattle.std.proofs.shelf.Tests.{cond-both, ne-eqb}
+use Rattle.trees.specs.Tree.{Tree, looks, joined, Walk, here, first, on, isIn, allBelow}
+use Rattle.bridges.specs.Net.{Copy, Where, Unknown, Here, Behind, Got, Rules, World, NoTree, This, at, treeOf, cameBy, notBack, copyTo, floods, toward, knows, learns, without, with-copies, two, sendBy}
+use Rattle.bridges.specs.Fabric.{Event, Send, Arrive, Lose, Believe, Announce, Adopt, Move, Forget, Crash, Turn, goesBy, mayHand, handed, forward, turned, happen, run}
+use Rattle.trees.proofs.Simple.{below-2}
+use Rattle.bridges.proofs.Changes.{at3-tells, forget-tells, crash-tells, goes-tells, not-back-is, floods-tells, toward-tells, pick-mem, without-mem, arrive-by, announce-by, adopt-by, send-by}
 
 pub record Known (r : Rules) (trees : List Tree) (n : ℕ) : Type 0 where
   pub t : Tree
@@ -85,7 +85,7 @@ pub handed-mem : (lax : Bool) (r : Rules) (w : World) (x : Copy) (k : Where) (n 
 unfolding handed
 handed-mem lax r w x k zero g m = absurd (List·Memᴰ·not-nil m)
 handed-mem lax r w x k (suc s) g m =
-    cond-by (mayHand lax r w x k s) (λ gs. List·Memᴰ g gs → (s : ℕ) × (g ≡ record { frame = x .frame .number; station = s; bridge = x .at }) × (mayHand lax r w x k s ≡ true)) _ _
+    cond-both (mayHand lax r w x k s) _ _ (λ gs. List·Memᴰ g gs → (s : ℕ) × (g ≡ record { frame = x .frame .number; station = s; bridge = x .at }) × (mayHand lax r w x k s ≡ true))
     (λ h m. elim (List·Memᴰ·cases-cons m) [ inl e ↦ (s, e, h) | inr m′ ↦ handed-mem lax r w x k s g m′ ])
     (λ _ m. handed-mem lax r w x k s g m) m
 
@@ -148,13 +148,13 @@ unfolding isIn two
 in-two n m [] h = grind (arith, tells)
 in-two n m (x ∷ xs) h = grind (arith, tells)
 
-first-in : (n : ℕ) (ns : List ℕ) → isIn n (n ∷ ns) ≡ true
+pub first-in : (n : ℕ) (ns : List ℕ) → isIn n (n ∷ ns) ≡ true
 unfolding isIn
 first-in n ns = grind (arith, tells)
 
 no-tree-before : (t : Tree) (n : ℕ) (ts : List Tree) → treeOf n (t ∷ ts) ≡ NoTree → treeOf n ts ≡ NoTree
 unfolding treeOf
-no-tree-before t n ts h = cond-by (eqb (t .number) n) (λ f. f ≡ NoTree → treeOf n ts ≡ NoTree) (This t) (treeOf n ts) (λ _ e. absurd (grind arith)) (λ _ e. e) h
+no-tree-before t n ts h = cond-both (eqb (t .number) n) (This t) (treeOf n ts) (λ f. f ≡ NoTree → treeOf n ts ≡ NoTree) (λ _ e. absurd (grind arith)) (λ _ e. e) h
 
 module _ (lax : Bool) (r : Rules) where
   -- fewer copies
@@ -221,11 +221,11 @@ module _ (lax : Bool) (r : Rules) where
     walks = λ x m. walks-stay r t (w .trees) e x (k .walks x m); fresh = k .fresh; old = k .old })
   keeps-step (Adopt b n) w k = adopt-by lax r (Keeps lax r) b n w k (λ t e l. record {
     homes = k .homes;
-    held = λ p m. cond-by (eqb p b) (λ hs. isIn m hs ≡ true → Known r (w .trees) m) (two (n ∷ w .holds b)) (w .holds p)
+    held = λ p m. cond-both (eqb p b) (two (n ∷ w .holds b)) (w .holds p) (λ hs. isIn m hs ≡ true → Known r (w .trees) m)
       (λ _ h. elim (in-two m n (w .holds b) h) [ inl q ↦ subst (λ z. Known r (w .trees) z) q (record { t = t; is = e; good = l }) | inr h′ ↦ k .held b m h′ ]) (λ _ h. k .held p m h);
     behind = k .behind; blank = k .blank; walks = k .walks; fresh = k .fresh; old = k .old })
-  keeps-step (Move s b) w k = cond-by (not lax || ltb b (r .bridges)) (Keeps lax r) _ w (λ h. record {
-    homes = λ l q p. cond-by (eqb q s) (λ c. c < r .bridges) b (w .home q) (λ _. there lax b (r .bridges) h l) (λ _. k .homes l q p);
+  keeps-step (Move s b) w k = cond-both (not lax || ltb b (r .bridges)) _ w (Keeps lax r) (λ h. record {
+    homes = λ l q p. cond-both (eqb q s) b (w .home q) (λ c. c < r .bridges) (λ _. there lax b (r .bridges) h l) (λ _. k .homes l q p);
     held = k .held; behind = k .behind; blank = k .blank; walks = k .walks; fresh = k .fresh; old = k .old }) (λ _. k)
     where
       there : (x : Bool) (a b : ℕ) → (not x || ltb a b) ≡ true → x ≡ true → a < b
@@ -240,7 +240,7 @@ module _ (lax : Bool) (r : Rules) where
       unknown e = grind arith
   keeps-step (Crash b) w k = record {
     homes = k .homes;
-    held = λ p m. cond-by (eqb p b) (λ hs. isIn m hs ≡ true → Known r (w .trees) m) [] (w .holds p) (λ _ h. absurd (nothing m h)) (λ _ h. k .held p m h);
+    held = λ p m. cond-both (eqb p b) [] (w .holds p) (λ hs. isIn m hs ≡ true → Known r (w .trees) m) (λ _ h. absurd (nothing m h)) (λ _ h. k .held p m h);
     behind = λ p m q c e. elim (crash-tells lax r b w p m q) [ inl h ↦ absurd (unknown (sym h ∙ e)) | inr h ↦ k .behind p m q c (sym h ∙ e) ];
     blank = λ p m q z. elim (crash-tells lax r b w p m q) [ inl h ↦ h | inr h ↦ h ∙ k .blank p m q z ];
     walks = k .walks; fresh = k .fresh; old = k .old }
@@ -251,9 +251,9 @@ module _ (lax : Bool) (r : Rules) where
       nothing m e = unfold isIn in grind arith
   keeps-step (Turn b n s ok) w k = record {
     homes = k .homes; held = k .held;
-    behind = λ p m q c. cond-by (eqb p b && (eqb m n && eqb q s)) (λ v. v ≡ Behind c → (c < r .bridges) ⊎ (c ≡ p)) (turned b ok (w .learned p m q)) (w .learned p m q)
+    behind = λ p m q c. cond-both (eqb p b && (eqb m n && eqb q s)) (turned b ok (w .learned p m q)) (w .learned p m q) (λ v. v ≡ Behind c → (c < r .bridges) ⊎ (c ≡ p))
       (λ h e. turned-behind p b c ok (r .bridges) (w .learned p m q) (bridge-is p b _ h) (k .behind p m q c) e) (λ _ e. k .behind p m q c e);
-    blank = λ p m q z. cond-by (eqb p b && (eqb m n && eqb q s)) (λ v. v ≡ Unknown) (turned b ok (w .learned p m q)) (w .learned p m q) (λ _. ap (turned b ok) (k .blank p m q z)) (λ _. k .blank p m q z);
+    blank = λ p m q z. cond-both (eqb p b && (eqb m n && eqb q s)) (turned b ok (w .learned p m q)) (w .learned p m q) (λ v. v ≡ Unknown) (λ _. ap (turned b ok) (k .blank p m q z)) (λ _. k .blank p m q z);
     walks = k .walks; fresh = k .fresh; old = k .old }
     where
       bridge-is : (p b : ℕ) (x : Bool) → (eqb p b && x) ≡ true → p ≡ b

@@ -2,25 +2,24 @@
 -- where it is, and whoever has come along the tree knows the way back. Assumes nothing.
 use mathlib.Core.Path.{_≡_, refl, sym, subst, ap, _∙_}
 use mathlib.Core.Bool.{Bool, true, false, cond, _&&_, _||_, not}
-use mathlib.Core.Logic.{_⊎_, inl, inr}
-use mathlib.Core.List.{List, [], _∷_, _++_, List·Memᴰ, List·Memᴰ·head, List·Memᴰ·tail, List·Memᴰ·cases-cons, List·Memᴰ·not-nil, List·Memᴰ·append-cases, Memᴰ·append-left, Memᴰ·append-right}
-use Prim.Native.Nat.{ℕ, zero, suc, _+_, _<_, _≤_}
+use mathlib.Core.Logic.{inl, inr}
+use mathlib.Core.List.{List, [], _∷_, _++_, List·Memᴰ, List·Memᴰ·cases-cons, List·Memᴰ·append-cases}
+use Prim.Native.Nat.{ℕ, _<_, _≤_}
 use native.Mathlib.Omega.{arith}
-use native.Mathlib.Decide.{ℕ-discrete, decLt}
-use lib.Dec.{eqb, ltb, leb}
-use borrow.Author.Tests.{eqb-true, eqb-false, eq-eqb, ne-eqb, lt-ltb, le-ltb, ltb-true, ltb-false, both-ways}
+use lib.Dec.{eqb, ltb}
 use Rattle.std.proofs.shelf.Ways.{tells}
-use Rattle.trees.specs.Tree.{Tree, looks, joined, Walk, here, first, on, isIn, different, allBelow}
-use Rattle.bridges.specs.Net.{Frame, Copy, Where, Unknown, Here, Behind, Got, Rules, World, Found, NoTree, This, at, at2, at3, treeOf, cameBy, notBack, copyTo, floods, toward, mayGet, knows, learns, without, with-copies, two, sendBy, announceIf, start}
-use Rattle.bridges.specs.Fabric.{Event, Send, Arrive, Lose, Believe, Announce, Adopt, Move, Forget, Crash, Turn, goesBy, mayHand, handed, forward, receive, arrives, isNewest, adoptIf, turned, happen, run}
-use Rattle.trees.proofs.Under.{Under, self, more, nearer, under-trans}
+use Rattle.std.proofs.shelf.Tests.{cond-both, and-parts, and-from, not-true, eq-eqb}
+use Rattle.trees.specs.Tree.{Tree, looks, joined, Walk, allBelow}
+use Rattle.bridges.specs.Net.{Copy, Where, Unknown, Here, Behind, Rules, World, Found, NoTree, This, at, treeOf, cameBy, toward, knows, without, with-copies, sendBy, announceIf}
+use Rattle.bridges.specs.Fabric.{Event, Send, Arrive, Lose, Believe, Announce, Adopt, Move, Forget, Crash, Turn, goesBy, forward, turned, happen, run}
+use Rattle.trees.proofs.Under.{Under}
 use Rattle.trees.proofs.Simple.{AllUnder, NoneUnder, also, Way, rose, fell, way, below-1, below-2}
-use Rattle.trees.proofs.Ahead.{below, leads, below-is, is-below, Leads, down, up, is-leads, leads-is}
-use Rattle.bridges.specs.Promise.{topWay, onWay, NotWrong}
+use Rattle.trees.proofs.Ahead.{Leads, down, up, is-leads}
+use Rattle.bridges.specs.Promise.{onWay, NotWrong}
 use Rattle.bridges.specs.Guarantee.{moves, stays, origin}
-use Rattle.bridges.proofs.Changes.{cond-by, at3-tells, forget-tells, crash-tells, came-from, Pick, pick-mem, without-mem, arrive-by, announce-by, adopt-by, send-by}
+use Rattle.bridges.proofs.Changes.{at3-tells, forget-tells, crash-tells, came-from, pick-mem, without-mem, arrive-by, announce-by, adopt-by, send-by}
 use Rattle.bridges.proofs.Keeps.{Walks, Keeps, keeps, tree-stays, Onward, toward-mem}
-use Rattle.bridges.proofs.Twice.{walk-joined, stays-home}
+use Rattle.bridges.proofs.Twice.{walk-joined}
 use Rattle.bridges.proofs.TopWays.{on-way-is}
 
 -- as NotWrong, of a station at h
@@ -51,11 +50,9 @@ origin-none c (b ∷ bs) (also u us) = origin-none b bs us
 
 -- whoever came from c knows that the beginning of the walk is behind c
 way-back : (n : ℕ) (t : Tree) (b c : ℕ) (bs : List ℕ) → looks n t ≡ true → ((b : ℕ) → n ≤ b → t .above b ≡ b) → allBelow n (b ∷ (c ∷ bs)) ≡ true → Walk t (b ∷ (c ∷ bs)) → onWay n t b (origin c bs) c ≡ true
-way-back n t b c bs l out g w = on-way-is n t l out b (origin c bs) c ∙ both _ _ (turned-round t c b (walk-joined w))
+way-back n t b c bs l out g w = on-way-is n t l out b (origin c bs) c ∙ and-from _ _ (turned-round t c b (walk-joined w))
     (is-leads n t l b c (origin c bs) (below-1 n b (c ∷ bs) g) (below-2 n b c bs g) (turned-round t c b (walk-joined w)) (go (way n t l g w)))
   where
-    both : (a b : Bool) → a ≡ true → b ≡ true → (a && b) ≡ true
-    both a b = grind arith
     turned-round : (t : Tree) (b c : ℕ) → joined t b c ≡ true → joined t c b ≡ true
     turned-round t b c j = grind (arith, tells)
     go : Way n t b c bs → Leads n t b c (origin c bs)
@@ -113,7 +110,7 @@ module _ (lax : Bool) (r : Rules) (t : Tree) (s : ℕ) (out : (b : ℕ) → r .b
   learnt-step (Believe a b c) w kp mv k = k
   learnt-step (Announce u) w kp mv k = announce-by lax r (Learnt r t s) u w k (λ e. record { is = tree-stays u t (t .number) (w .trees) e (k .is); begun = k .begun; right = k .right })
   learnt-step (Adopt b n) w kp mv k = adopt-by lax r (Learnt r t s) b n w k (λ _ _ _. k)
-  learnt-step (Move a b) w kp mv k = cond-by (not lax || ltb b (r .bridges)) (Learnt r t s) _ w (λ _. record {
+  learnt-step (Move a b) w kp mv k = cond-both (not lax || ltb b (r .bridges)) _ w (Learnt r t s) (λ _. record {
     is = k .is;
     begun = λ x m p q. k .begun x m p q ∙ sym home-is;
     right = λ c lt. subst (λ h. Right (r .bridges) t h c (w .learned c (t .number) s)) (sym home-is) (k .right c lt) }) (λ _. k)
@@ -127,7 +124,7 @@ module _ (lax : Bool) (r : Rules) (t : Tree) (s : ℕ) (out : (b : ℕ) → r .b
   learnt-step (Crash b) w kp mv k = record { is = k .is; begun = k .begun;
     right = λ c lt. elim (crash-tells lax r b w c (t .number) s) [ inl h ↦ subst (Right (r .bridges) t (w .home s) c) (sym h) tt | inr h ↦ subst (Right (r .bridges) t (w .home s) c) (sym h) (k .right c lt) ] }
   learnt-step (Turn b n a ok) w kp mv k = record { is = k .is; begun = k .begun;
-    right = λ c lt. cond-by (eqb c b && (eqb (t .number) n && eqb s a)) (Right (r .bridges) t (w .home s) c) (turned b ok (w .learned c (t .number) s)) (w .learned c (t .number) s)
+    right = λ c lt. cond-both (eqb c b && (eqb (t .number) n && eqb s a)) (turned b ok (w .learned c (t .number) s)) (w .learned c (t .number) s) (Right (r .bridges) t (w .home s) c)
       (λ h. absurd (other (eqb c b) (eqb (t .number) n) h mv)) (λ _. k .right c lt) }
     where
       other : (x y : Bool) → (x && (y && eqb s a)) ≡ true → eqb a s ≡ false → ⊥
@@ -147,12 +144,7 @@ module _ (lax : Bool) (r : Rules) (t : Tree) (s : ℕ) (out : (b : ℕ) → r .b
   learnt-since : (later before : List Event) → treeOf (t .number) (run lax r before .trees) ≡ NoTree → stays s later ≡ true → Learnt r t s (run lax r (later ++ (Announce t ∷ before)))
   unfolding run stays
   learnt-since [] before e h = learnt-start (run lax r before) (keeps lax r before) e
-  learnt-since (e′ ∷ later) before e h = learnt-step e′ (run lax r (later ++ (Announce t ∷ before))) (keeps lax r (later ++ (Announce t ∷ before))) (still (moves s e′) _ h) (learnt-since later before e (more (moves s e′) _ h))
-    where
-      more : (a b : Bool) → (not a && b) ≡ true → b ≡ true
-      more a b h = grind arith
-      still : (a b : Bool) → (not a && b) ≡ true → a ≡ false
-      still a b h = grind arith
+  learnt-since (e′ ∷ later) before e h = learnt-step e′ (run lax r (later ++ (Announce t ∷ before))) (keeps lax r (later ++ (Announce t ∷ before))) (not-true _ (and-parts (not (moves s e′)) _ h .0)) (learnt-since later before e (and-parts (not (moves s e′)) _ h .1))
 
 pub learnt-right : (lax : Bool) (r : Rules) (es later before : List Event) (t : Tree) → es ≡ later ++ (Announce t ∷ before) → treeOf (t .number) (run lax r before .trees) ≡ NoTree → ((b : ℕ) → r .bridges ≤ b → t .above b ≡ b) →
     (s b : ℕ) → s < r .stations → b < r .bridges → stays s later ≡ true → NotWrong r (run lax r es) t b s (run lax r es .learned b (t .number) s)
