@@ -1,18 +1,15 @@
 -- Counting: in a list, and below a number. Assumes nothing.
-use mathlib.Core.Path.{_≡_, refl, sym, subst, ap, _∙_}
-use mathlib.Core.Bool.{Bool, true, false, cond, _&&_, _||_, not}
+use mathlib.Core.Path.{_≡_, refl, sym, ap, _∙_}
+use mathlib.Core.Bool.{Bool, true, false, cond, _&&_}
 use mathlib.Core.Logic.{_⊎_, inl, inr}
-use mathlib.Core.List.{List, [], _∷_, _++_, List·Memᴰ, List·Memᴰ·head, List·Memᴰ·tail, List·Memᴰ·cases-cons, List·Memᴰ·not-nil, List·Memᴰ·append-cases, Memᴰ·append-left, Memᴰ·append-right}
+use mathlib.Core.List.{List, [], _∷_, _++_, List·Memᴰ, List·Memᴰ·head, List·Memᴰ·tail}
 use Prim.Native.Nat.{ℕ, zero, suc, _+_, _<_, _≤_}
 use native.Mathlib.Omega.{arith}
-use native.Mathlib.Decide.{ℕ-discrete, decLt}
-use lib.Dec.{eqb, ltb, leb}
-use borrow.Author.Tests.{eqb-true, eqb-false, eq-eqb, ne-eqb, lt-ltb, le-ltb, ltb-true, ltb-false, both-ways}
-use Rattle.std.proofs.shelf.Ways.{tells}
-use Rattle.trees.specs.Tree.{Tree, looks, joined, Walk, here, first, on, isIn, different, allBelow}
-use Rattle.bridges.specs.Net.{Frame, Copy, Where, Unknown, Here, Behind, Got, Rules, World, Found, NoTree, This, at, at2, at3, treeOf, cameBy, notBack, copyTo, floods, toward, mayGet, knows, learns, without, with-copies, two, sendBy, announceIf, start}
-use Rattle.bridges.specs.Fabric.{Event, Send, Arrive, Lose, Believe, Announce, Adopt, Move, Forget, Crash, Turn, goesBy, mayHand, handed, forward, receive, arrives, isNewest, adoptIf, turned, happen, run}
-use Rattle.bridges.proofs.Changes.{cond-by, Pick, now, later}
+use native.Mathlib.Decide.{ℕ-discrete}
+use Rattle.trees.specs.Tree.{Tree, joined}
+use Rattle.bridges.specs.Net.{Copy, Where, Got, Rules, World, at, notBack, copyTo, floods, without}
+use Rattle.bridges.specs.Fabric.{mayHand, handed}
+use Rattle.bridges.proofs.Changes.{Pick, now, later}
 
 abbrev pub one : Bool → ℕ
 one b = cond b 1 0

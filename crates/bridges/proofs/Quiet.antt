@@ -1,19 +1,18 @@
 -- What quiet events leave as it is. Assumes nothing.
-use mathlib.Core.Path.{_≡_, refl, sym, subst, ap, _∙_}
-use mathlib.Core.Bool.{Bool, true, false, cond, _&&_, _||_, not}
-use mathlib.Core.Logic.{_⊎_, inl, inr}
-use mathlib.Core.List.{List, [], _∷_, _++_, List·Memᴰ, List·Memᴰ·head, List·Memᴰ·tail, List·Memᴰ·cases-cons, List·Memᴰ·not-nil, List·Memᴰ·append-cases, Memᴰ·append-left, Memᴰ·append-right}
-use Prim.Native.Nat.{ℕ, zero, suc, _+_, _<_, _≤_}
+use mathlib.Core.Path.{_≡_, refl, sym, subst, _∙_}
+use mathlib.Core.Bool.{Bool, true, false, _&&_, _||_, not}
+use mathlib.Core.Logic.{inl, inr}
+use mathlib.Core.List.{List, [], _∷_, List·Memᴰ, List·Memᴰ·append-cases}
+use Prim.Native.Nat.{ℕ, zero, suc, _+_, _<_}
 use native.Mathlib.Omega.{arith}
-use native.Mathlib.Decide.{ℕ-discrete, decLt}
-use lib.Dec.{eqb, ltb, leb}
-use borrow.Author.Tests.{eqb-true, eqb-false, eq-eqb, ne-eqb, lt-ltb, le-ltb, ltb-true, ltb-false, both-ways}
+use lib.Dec.{eqb, ltb}
 use Rattle.std.proofs.shelf.Ways.{tells}
-use Rattle.trees.specs.Tree.{Tree, looks, joined, Walk, here, first, on, isIn, different, allBelow}
-use Rattle.bridges.specs.Net.{Frame, Copy, Where, Unknown, Here, Behind, Got, Rules, World, Found, NoTree, This, at, at2, at3, treeOf, cameBy, notBack, copyTo, floods, toward, mayGet, knows, learns, without, with-copies, two, sendBy, announceIf, start}
-use Rattle.bridges.specs.Fabric.{Event, Send, Arrive, Lose, Believe, Announce, Adopt, Move, Forget, Crash, Turn, goesBy, mayHand, handed, forward, receive, arrives, isNewest, adoptIf, turned, happen, run}
+use Rattle.std.proofs.shelf.Tests.{cond-both, eqb-false}
+use Rattle.trees.specs.Tree.{Tree, joined}
+use Rattle.bridges.specs.Net.{Copy, Where, Unknown, Got, Rules, World, at, cameBy, knows, without, with-copies, sendBy}
+use Rattle.bridges.specs.Fabric.{Event, Send, Arrive, Lose, Believe, Announce, Adopt, Move, Forget, Crash, Turn, goesBy, mayHand, handed, turned, happen}
 use Rattle.bridges.specs.Guarantee.{moves, forgets, quiet, isCopyOf}
-use Rattle.bridges.proofs.Changes.{cond-by, Pick, now, later, pick-mem, without-mem, arrive-by, announce-by, adopt-by, send-by}
+use Rattle.bridges.proofs.Changes.{at3-tells, Pick, now, later, pick-mem, arrive-by, announce-by, adopt-by, send-by}
 use Rattle.bridges.proofs.Keeps.{handed-mem}
 use Rattle.bridges.proofs.Counts.{one, one-same, count}
 
@@ -43,7 +42,7 @@ quiet-holds lax r t f d e w h = go e w h
     go (Believe a b c) w h = refl
     go (Announce u) w h = announce-by lax r (P (w .holds)) u w refl (λ _. refl)
     go (Adopt b n) w h = absurd (grind arith)
-    go (Move a b) w h = cond-by (not lax || ltb b (r .bridges)) (P (w .holds)) _ w (λ _. refl) (λ _. refl)
+    go (Move a b) w h = cond-both (not lax || ltb b (r .bridges)) _ w (P (w .holds)) (λ _. refl) (λ _. refl)
     go (Forget b n a) w h = refl
     go (Crash b) w h = absurd (grind arith)
     go (Turn b n a ok) w h = refl
@@ -66,7 +65,7 @@ quiet-open lax r t f d e w h k = go e w h k
     go (Send a b) w h k = send-by lax r P a b w k (λ _ _ _ _ _ _. k)
     go (Arrive i) w h k = arrive-by lax r P i (w .copies) (with-copies (without i (w .copies)) w) (λ _. k) (λ _ _ _. k) (λ _ _ _ _ _. k)
     go (Lose i) w h k = k
-    go (Believe a b c) w h k = λ p q lp lq j. cond-by (eqb p a && eqb q b) (λ x. x ≡ true) c (w .up p q) (λ e. told p q j e) (λ _. k p q lp lq j)
+    go (Believe a b c) w h k = λ p q lp lq j. cond-both (eqb p a && eqb q b) c (w .up p q) (λ x. x ≡ true) (λ e. told p q j e) (λ _. k p q lp lq j)
       where
         told : (p q : ℕ) → joined t p q ≡ true → (eqb p a && eqb q b) ≡ true → c ≡ true
         told p q j e = open-or c (joined t a b) h (subst (λ z. joined t z b ≡ true) (same p q a b e .0) (subst (λ z. joined t p z ≡ true) (same p q a b e .1) j))
@@ -75,7 +74,7 @@ quiet-open lax r t f d e w h k = go e w h k
             open-or x y = grind arith
     go (Announce u) w h k = announce-by lax r P u w k (λ _. k)
     go (Adopt b n) w h k = adopt-by lax r P b n w k (λ _ _ _. k)
-    go (Move a b) w h k = cond-by (not lax || ltb b (r .bridges)) P _ w (λ _. k) (λ _. k)
+    go (Move a b) w h k = cond-both (not lax || ltb b (r .bridges)) _ w P (λ _. k) (λ _. k)
     go (Forget b n a) w h k = k
     go (Crash b) w h k = k
     go (Turn b n a ok) w h k = k
@@ -98,18 +97,18 @@ quiet-known lax r t f d e w h g k = go e w h g k
     go : (e : Event) (w : World) → quiet t f d w e ≡ true → forgets (t .number) d e ≡ false → P w → P (happen lax r e w)
     go (Send a b) w h g k = send-by lax r P a b w k (λ _ _ _ _ _ _. k)
     go (Arrive i) w h g k = arrive-by lax r P i (w .copies) (with-copies (without i (w .copies)) w) (λ _. k) (λ _ _ _. k)
-        (λ x _ _ _ _ b lb. cond-by (eqb b (x .at) && (eqb (t .number) (x .frame .tree) && eqb d (x .frame .from))) (λ v. v ≡ Unknown → ⊥) (cameBy (x .trail)) (w .learned b (t .number) d) (λ _. came (x .trail)) (λ _. k b lb))
+        (λ x _ _ _ _ b lb q. elim (at3-tells (x .at) (x .frame .tree) (x .frame .from) (cameBy (x .trail)) (w .learned) b (t .number) d) [ inl h ↦ came (x .trail) (sym (h .3) ∙ q) | inr h ↦ k b lb (sym h ∙ q) ])
     go (Lose i) w h g k = k
     go (Believe a b c) w h g k = k
     go (Announce u) w h g k = announce-by lax r P u w k (λ _. k)
     go (Adopt b n) w h g k = adopt-by lax r P b n w k (λ _ _ _. k)
-    go (Move a b) w h g k = cond-by (not lax || ltb b (r .bridges)) P _ w (λ _. k) (λ _. k)
-    go (Forget b n a) w h g k = λ p lp. cond-by (eqb p b && (eqb (t .number) n && eqb d a)) (λ v. v ≡ Unknown → ⊥) Unknown (w .learned p (t .number) d) (λ e _. other (eqb p b) (t .number) n d a e g) (λ _. k p lp)
+    go (Move a b) w h g k = cond-both (not lax || ltb b (r .bridges)) _ w P (λ _. k) (λ _. k)
+    go (Forget b n a) w h g k = λ p lp. cond-both (eqb p b && (eqb (t .number) n && eqb d a)) _ _ (λ v. v ≡ Unknown → ⊥) (λ e _. other (eqb p b) (t .number) n d a e g) (λ _. k p lp)
       where
         other : (x : Bool) (m n d a : ℕ) → (x && (eqb m n && eqb d a)) ≡ true → (eqb n m && eqb a d) ≡ false → ⊥
         other x m n d a p q = grind (arith, tells)
     go (Crash b) w h g k = absurd (grind arith)
-    go (Turn b n a ok) w h g k = λ p lp. cond-by (eqb p b && (eqb (t .number) n && eqb d a)) (λ v. v ≡ Unknown → ⊥) (turned b ok (w .learned p (t .number) d)) (w .learned p (t .number) d) (λ e _. other (eqb p b) (eqb (t .number) n) d a e h) (λ _. k p lp)
+    go (Turn b n a ok) w h g k = λ p lp. cond-both (eqb p b && (eqb (t .number) n && eqb d a)) (turned b ok (w .learned p (t .number) d)) (w .learned p (t .number) d) (λ v. v ≡ Unknown → ⊥) (λ e _. other (eqb p b) (eqb (t .number) n) d a e h) (λ _. k p lp)
       where
         other : (x y : Bool) (d a : ℕ) → (x && (y && eqb d a)) ≡ true → not (eqb a d) ≡ true → ⊥
         other x y d a p q = grind (arith, tells)
@@ -137,7 +136,7 @@ given-step lax r Q e w h k = go e w h k
     go (Believe a b c) w h k = k
     go (Announce u) w h k = announce-by lax r P u w k (λ _. k)
     go (Adopt b n) w h k = adopt-by lax r P b n w k (λ _ _ _. k)
-    go (Move a b) w h k = cond-by (not lax || ltb b (r .bridges)) P _ w (λ _. k) (λ _. k)
+    go (Move a b) w h k = cond-both (not lax || ltb b (r .bridges)) _ w P (λ _. k) (λ _. k)
     go (Forget b n a) w h k = k
     go (Crash b) w h k = k
     go (Turn b n a ok) w h k = k

@@ -1,22 +1,20 @@
 -- The way up from a bridge as a list, against who stands at or above it; it is never longer than there are bridges.
 -- Assumes nothing.
-use mathlib.Core.Path.{_≡_, refl, sym, subst, ap, _∙_}
+use mathlib.Core.Path.{_≡_, refl, sym, ap, _∙_}
 use mathlib.Core.Bool.{Bool, true, false, cond, _&&_, _||_, not}
-use mathlib.Core.Logic.{_⊎_, inl, inr}
-use mathlib.Core.List.{List, [], _∷_, _++_, List·Memᴰ, List·Memᴰ·head, List·Memᴰ·tail, List·Memᴰ·cases-cons, List·Memᴰ·not-nil, List·Memᴰ·append-cases, Memᴰ·append-left, Memᴰ·append-right}
-use Prim.Native.Nat.{ℕ, zero, suc, _+_, _<_, _≤_}
+use mathlib.Core.Logic.{inl, inr}
+use mathlib.Core.List.{[], _∷_}
+use Prim.Native.Nat.{ℕ, zero, suc, _<_, _≤_}
 use native.Mathlib.Omega.{arith}
 use native.Mathlib.Decide.{ℕ-discrete, decLt}
-use lib.Dec.{eqb, ltb, leb}
-use borrow.Author.Tests.{eqb-true, eqb-false, eq-eqb, ne-eqb, lt-ltb, le-ltb, ltb-true, ltb-false, both-ways}
+use lib.Dec.{eqb, ltb}
 use Rattle.std.proofs.shelf.Ways.{tells}
-use Rattle.trees.specs.Tree.{Tree, looks, joined, Walk, here, first, on, isIn, different, allBelow}
-use Rattle.bridges.specs.Net.{Frame, Copy, Where, Unknown, Here, Behind, Got, Rules, World, Found, NoTree, This, at, at2, at3, treeOf, cameBy, notBack, copyTo, floods, toward, mayGet, knows, learns, without, with-copies, two, sendBy, announceIf, start}
-use Rattle.bridges.specs.Fabric.{Event, Send, Arrive, Lose, Believe, Announce, Adopt, Move, Forget, Crash, Turn, goesBy, mayHand, handed, forward, receive, arrives, isNewest, adoptIf, turned, happen, run}
-use Rattle.trees.proofs.Under.{Under, self, more, nearer, under-trans}
-use Rattle.trees.proofs.Ahead.{below, leads, below-is, is-below, Leads, is-leads, leads-is}
+use Rattle.std.proofs.shelf.Tests.{cond-both, eqb-true, eqb-false, eq-eqb, lt-ltb}
+use Rattle.trees.specs.Tree.{Tree, looks, joined, on, isIn}
+use Rattle.bridges.specs.Net.{at}
+use Rattle.trees.proofs.Under.{Under, self, more, nearer}
+use Rattle.trees.proofs.Ahead.{below, leads, below-is, is-below}
 use Rattle.bridges.specs.Promise.{topWay, onWay}
-use Rattle.bridges.proofs.Changes.{cond-by}
 use Rattle.bridges.proofs.Counts.{one, one-same, countBelow}
 
 -- fewer pass a test that is harder to pass
@@ -93,11 +91,11 @@ module _ (n : ℕ) (t : Tree) (l : looks n t ≡ true) where
     unfolding topWay isIn
     under-way zero c x h (self e) = grind (arith, tells)
     under-way zero c x h (more lt u) = absurd (let z = h lt in omega arith)
-    under-way (suc k) c x h (self e) = cond-by (eqb (t .above x) x) (λ ys. isIn c ys ≡ true) (x ∷ []) (x ∷ topWay k t (t .above x)) (λ _. first-is (eqb x c) false (eq-eqb _ _ e)) (λ _. first-is (eqb x c) (isIn c (topWay k t (t .above x))) (eq-eqb _ _ e))
+    under-way (suc k) c x h (self e) = cond-both (eqb (t .above x) x) (x ∷ []) (x ∷ topWay k t (t .above x)) (λ ys. isIn c ys ≡ true) (λ _. first-is (eqb x c) false (eq-eqb _ _ e)) (λ _. first-is (eqb x c) (isIn c (topWay k t (t .above x))) (eq-eqb _ _ e))
       where
         first-is : (a b : Bool) → a ≡ true → (a || b) ≡ true
         first-is a b h = grind arith
-    under-way (suc k) c x h (more lt u) = cond-by (eqb (t .above x) x) (λ ys. isIn c ys ≡ true) (x ∷ []) (x ∷ topWay k t (t .above x))
+    under-way (suc k) c x h (more lt u) = cond-both (eqb (t .above x) x) (x ∷ []) (x ∷ topWay k t (t .above x)) (λ ys. isIn c ys ≡ true)
         (λ e. first-is (eqb x c) false (eq-eqb _ _ (let q = eqb-true (t .above x) x e in sym q ∙ top-alone (t .above x) (ap (t .above) q) u)))
         (λ e. second-is (eqb x c) _ (under-way k c (t .above x) (λ la. lower la (eqb-false _ _ e) (h lt)) u))
       where

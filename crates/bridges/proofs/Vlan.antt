@@ -1,20 +1,18 @@
 -- Who gets a frame is of its sender's VLAN and isn't its sender, and each frame has one sender. Assumes nothing.
-use mathlib.Core.Path.{_≡_, refl, sym, subst, ap, _∙_}
+use mathlib.Core.Path.{_≡_, refl, sym, subst, _∙_}
 use mathlib.Core.Bool.{Bool, true, false, cond, _&&_, _||_, not}
 use mathlib.Core.Logic.{_⊎_, inl, inr}
-use mathlib.Core.List.{List, [], _∷_, _++_, List·Memᴰ, List·Memᴰ·head, List·Memᴰ·tail, List·Memᴰ·cases-cons, List·Memᴰ·not-nil, List·Memᴰ·append-cases, Memᴰ·append-left, Memᴰ·append-right}
-use Prim.Native.Nat.{ℕ, zero, suc, _+_, _<_, _≤_}
+use mathlib.Core.List.{List, [], _∷_, List·Memᴰ, List·Memᴰ·cases-cons, List·Memᴰ·not-nil, List·Memᴰ·append-cases}
+use Prim.Native.Nat.{ℕ, suc, _<_, _≤_}
 use native.Mathlib.Omega.{arith}
-use native.Mathlib.Decide.{ℕ-discrete, decLt}
-use lib.Dec.{eqb, ltb, leb}
-use borrow.Author.Tests.{eqb-true, eqb-false, eq-eqb, ne-eqb, lt-ltb, le-ltb, ltb-true, ltb-false, both-ways}
+use lib.Dec.{eqb, ltb}
 use Rattle.std.proofs.shelf.Ways.{tells}
-use Rattle.trees.specs.Tree.{Tree, looks, joined, Walk, here, first, on, isIn, different, allBelow}
-use Rattle.bridges.specs.Net.{Frame, Copy, Where, Unknown, Here, Behind, Got, Rules, World, Found, NoTree, This, at, at2, at3, treeOf, cameBy, notBack, copyTo, floods, toward, mayGet, knows, learns, without, with-copies, two, sendBy, announceIf, start}
-use Rattle.bridges.specs.Fabric.{Event, Send, Arrive, Lose, Believe, Announce, Adopt, Move, Forget, Crash, Turn, goesBy, mayHand, handed, forward, receive, arrives, isNewest, adoptIf, turned, happen, run}
-use Rattle.std.proofs.shelf.Tests.{or-right}
+use Rattle.std.proofs.shelf.Tests.{cond-both, or-right, eqb-true}
+use Rattle.trees.specs.Tree.{Tree}
+use Rattle.bridges.specs.Net.{Frame, Copy, Where, Unknown, Here, Behind, Got, Rules, World, at, toward, knows, without, with-copies, sendBy}
+use Rattle.bridges.specs.Fabric.{Event, Send, Arrive, Lose, Believe, Announce, Adopt, Move, Forget, Crash, Turn, goesBy, mayHand, handed, forward, happen, run}
 use Rattle.bridges.specs.Guarantee.{some, makes, sentBy}
-use Rattle.bridges.proofs.Changes.{cond-by, Pick, pick-mem, without-mem, arrive-by, announce-by, adopt-by, send-by}
+use Rattle.bridges.proofs.Changes.{pick-mem, without-mem, arrive-by, announce-by, adopt-by, send-by}
 use Rattle.bridges.proofs.Keeps.{Onward, toward-mem, handed-mem}
 
 abbrev new-frame : Rules → World → ℕ → ℕ → ℕ → Frame
@@ -62,7 +60,7 @@ module _ (P : Frame → Type 0) (Q : Got → Type 0) where
     carried-step (Believe a b k) w new c = c
     carried-step (Announce t) w new c = announce-by lax r Carried t w c (λ _. c)
     carried-step (Adopt b n) w new c = adopt-by lax r Carried b n w c (λ _ _ _. c)
-    carried-step (Move s b) w new c = cond-by (not lax || ltb b (r .bridges)) Carried _ w (λ _. c) (λ _. c)
+    carried-step (Move s b) w new c = cond-both (not lax || ltb b (r .bridges)) _ w Carried (λ _. c) (λ _. c)
     carried-step (Forget b n s) w new c = c
     carried-step (Crash b) w new c = c
     carried-step (Turn b n s ok) w new c = c
@@ -94,10 +92,9 @@ may-colour lax r w x Here s h = grind (arith, tells)
 may-colour lax r w x (Behind c) s h = grind (arith, tells)
 
 may-other : (lax : Bool) (r : Rules) (w : World) (x : Copy) (k : Where) (s : ℕ) → mayHand lax r w x k s ≡ true → lax ≡ false → s ≡ x .frame .from → ⊥
-may-other lax r w x k s h l e = other lax (eqb s (x .frame .from)) (mayGet r w x k s) h l (eq-eqb _ _ e)
-  where
-    other : (x y z : Bool) → ((x || not y) && z) ≡ true → x ≡ false → y ≡ true → ⊥
-    other x y z = grind arith
+may-other lax r w x Unknown s h l e = grind (arith, tells)
+may-other lax r w x Here s h l e = grind (arith, tells)
+may-other lax r w x (Behind c) s h l e = grind (arith, tells)
 
 module _ (lax : Bool) (r : Rules) where
   rightly : (es : List Event) (w : World) (x : Copy) (k : Where) (s : ℕ) → Named lax r es (x .frame) → mayHand lax r w x k s ≡ true → Rightly lax r es (record { frame = x .frame .number; station = s; bridge = x .at })
@@ -146,7 +143,7 @@ next-grows lax r e w = go e w
     go (Believe a b c) w = same (w .next)
     go (Announce t) w = announce-by lax r (P (w .next)) t w (same (w .next)) (λ _. same (w .next))
     go (Adopt b n) w = adopt-by lax r (P (w .next)) b n w (same (w .next)) (λ _ _ _. same (w .next))
-    go (Move s b) w = cond-by (not lax || ltb b (r .bridges)) (P (w .next)) _ w (λ _. same (w .next)) (λ _. same (w .next))
+    go (Move s b) w = cond-both (not lax || ltb b (r .bridges)) _ w (P (w .next)) (λ _. same (w .next)) (λ _. same (w .next))
     go (Forget b n s) w = same (w .next)
     go (Crash b) w = same (w .next)
     go (Turn b n s ok) w = same (w .next)

@@ -1,18 +1,17 @@
 -- The bridges ahead of whoever goes from one bridge to a joined one, along a tree and never straight back: those that
 -- can still be come to. Assumes nothing.
 use mathlib.Core.Path.{_≡_, refl, sym, subst, ap, _∙_}
-use mathlib.Core.Bool.{Bool, true, false, cond, _&&_, _||_, not}
+use mathlib.Core.Bool.{Bool, true, false, cond, not}
 use mathlib.Core.Logic.{_⊎_, inl, inr}
-use mathlib.Core.List.{List, [], _∷_}
-use Prim.Native.Nat.{ℕ, zero, suc, _+_, _<_, _≤_}
+use Prim.Native.Nat.{ℕ, _<_}
 use native.Mathlib.Omega.{arith}
-use native.Mathlib.Decide.{ℕ-discrete, decLt}
-use lib.Dec.{eqb, ltb, leb}
+use native.Mathlib.Decide.{ℕ-discrete}
+use lib.Dec.{eqb}
 use borrow.Author.Tests.{eq-eqb, ne-eqb, both-ways}
 use Rattle.std.proofs.shelf.Ways.{tells}
 use Rattle.trees.specs.Tree.{Tree, looks, joined}
 use Rattle.trees.proofs.Under.{Under, self, more, nearer, under, under-is, is-under, under-trans, not-under, one-child}
-use Rattle.trees.proofs.Simple.{joined-or, joined-apart, joined-ways, up-nearer}
+use Rattle.trees.proofs.Simple.{joined-apart, joined-ways}
 
 abbrev pub below : ℕ → Tree → ℕ → ℕ → Bool
 below n t c b = under (t .far b) n t c b

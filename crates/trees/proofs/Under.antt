@@ -1,33 +1,33 @@
 -- Who stands at or above whom in a tree over the first n bridges: as a relation, and as a test. Assumes nothing.
-use mathlib.Core.Path.{_≡_, refl, sym, subst, ap, _∙_}
-use mathlib.Core.Bool.{Bool, true, false, cond, _&&_, _||_, not}
+use mathlib.Core.Path.{_≡_, sym, subst, ap}
+use mathlib.Core.Bool.{Bool, true, _&&_, _||_}
 use mathlib.Core.Logic.{_⊎_, inl, inr}
-use mathlib.Core.List.{List, [], _∷_}
-use Prim.Native.Nat.{ℕ, zero, suc, _+_, _<_, _≤_}
+use Prim.Native.Nat.{ℕ, zero, suc, _<_, _≤_}
 use native.Mathlib.Omega.{arith}
-use native.Mathlib.Decide.{ℕ-discrete, decLt}
-use lib.Dec.{eqb, ltb, leb}
+use native.Mathlib.Decide.{ℕ-discrete}
+use lib.Dec.{eqb, ltb}
 use Rattle.std.proofs.shelf.Ways.{tells}
-use Rattle.trees.specs.Tree.{Tree, looks, joined}
+use Rattle.trees.specs.Tree.{Tree, looks}
 
 -- c stands at or above x
 pub data Under (n : ℕ) (t : Tree) (c : ℕ) : ℕ → Type 0 where
   self : {x : ℕ} → x ≡ c → Under n t c x
   more : {x : ℕ} → x < n → Under n t c (t .above x) → Under n t c x
 
-pub nearer : (n : ℕ) (t : Tree) → looks n t ≡ true → (b : ℕ) → b < n → (t .above b ≡ b) ⊎ (t .far (t .above b) < t .far b)
+-- the last bridge is at the top, or nearer to it stands who is above
+looks-last : (n : ℕ) (t : Tree) → looks (suc n) t ≡ true → (t .above n ≡ n) ⊎ (t .far (t .above n) < t .far n)
 unfolding looks
+looks-last n t l = grind (arith, tells)
+
+looks-rest : (n : ℕ) (t : Tree) → looks (suc n) t ≡ true → looks n t ≡ true
+unfolding looks
+looks-rest n t l = grind (arith, tells)
+
+pub nearer : (n : ℕ) (t : Tree) → looks n t ≡ true → (b : ℕ) → b < n → (t .above b ≡ b) ⊎ (t .far (t .above b) < t .far b)
 nearer zero t l b lt = absurd (omega arith)
 nearer (suc n) t l b lt = elim (ℕ-discrete b n) [
-  | yes e ↦ subst (λ c. (t .above c ≡ c) ⊎ (t .far (t .above c) < t .far c)) (sym e) (at-top n t l)
-  | no k ↦ nearer n t (below n t l) b (omega arith)
-]
-  where
-    at-top : (n : ℕ) (t : Tree) → ((eqb (t .above n) n || ltb (t .far (t .above n)) (t .far n)) && looks n t) ≡ true → (t .above n ≡ n) ⊎ (t .far (t .above n) < t .far n)
-    at-top n t l = grind (arith, tells)
-
-    below : (n : ℕ) (t : Tree) → ((eqb (t .above n) n || ltb (t .far (t .above n)) (t .far n)) && looks n t) ≡ true → looks n t ≡ true
-    below n t l = grind (arith, tells)
+    yes e ↦ subst (λ c. (t .above c ≡ c) ⊎ (t .far (t .above c) < t .far c)) (sym e) (looks-last n t l)
+  | no k ↦ nearer n t (looks-rest n t l) b (omega arith) ]
 
 pub under-trans : {n : ℕ} {t : Tree} {a b x : ℕ} → Under n t a b → Under n t b x → Under n t a x
 under-trans {n} {t} {a} u (self e) = subst (λ y. Under n t a y) (sym e) u
