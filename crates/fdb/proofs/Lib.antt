@@ -1,1 +1,4 @@
 pub mod Ordered
+pub mod Found
+pub mod Learns
+pub mod Histories

@@ -5,6 +5,7 @@ mod learning;
 mod search;
 mod station;
 mod table;
+mod theorems;
 
 pub use ageing::LIFETIME;
 pub use entry::Entry;
@@ -12,3 +13,7 @@ pub use entry::Location;
 pub use station::Station;
 pub use table::MOST;
 pub use table::Table;
+pub use theorems::ageing_stands;
+pub use theorems::history_stands;
+pub use theorems::learning_stands;
+pub use theorems::longest_stands;
