@@ -1,3 +1,4 @@
+pub mod Stations
 pub mod Ordered
 pub mod Found
 pub mod Learns

@@ -17,3 +17,4 @@ pub use theorems::ageing_stands;
 pub use theorems::history_stands;
 pub use theorems::learning_stands;
 pub use theorems::longest_stands;
+pub use theorems::stations_stand;

@@ -1,7 +1,15 @@
 // What holds of every table, as theorems: each is what a function of no other use ensures, so that the check asks for its proof.
+ghost use Rattle.fdb.specs.Address.{Apart};
 ghost use Rattle.fdb.specs.Learning.{Learning};
 ghost use Rattle.fdb.specs.Ageing.{Ageing};
 ghost use Rattle.fdb.specs.History.{History, Longest};
+
+// No two stations have one number.
+pub fn stations_stand() -> u8
+    ensures { λ _. ⌜ Apart ⌝ }
+{
+    0
+}
 
 // After a station was heard it is known where it is; every other is known as before, but for one that goes when there is no room, the longest unheard of.
 pub fn learning_stands() -> u8

@@ -4,7 +4,10 @@ use mathlib.Core.Bool.{true}
 use Rattle.std.specs.Of.Vec.{vec-items}
 use Rattle.std.proofs.shelf.Lists.{refilled-is}
 use Rattle.fdb.specs.Entries.{remembered, ascending}
-use Rattle.fdb.specs.Contents.{Contents}
+use Rattle.fdb.specs.Contents.{Contents, aged}
+use Rattle.fdb.specs.Ageing.{Forgets}
+use Rattle.fdb.specs.Held.{contents}
+use Rattle.fdb.proofs.Learns.{ages, sound-table}
 use Rattle.fdb.proofs.Ordered.{ascending-remembered}
 use Rattle.fdb.proofs.table.Table.forget.Needs as need
 
@@ -20,4 +23,6 @@ pub returns : need.returns
 returns c =
     let h : vec-items (c .truncate .last .self) ≡ remembered (c .args .tick) (vec-items (c .args .self .now .entries))
         = cc (refilled-is (c .args .self .now .entries) (c .keep-fresh-count .last .entries) (omega arith)) in
-    λ i. record { entries = h i; heard = c .args .self .now .heard }
+    let g : record { entries = vec-items (c .truncate .last .self); heard = c .args .self .now .heard } ≡ aged (c .args .tick) (contents (c .args .self .now))
+        = λ i. record { entries = h i; heard = c .args .self .now .heard } in
+    record { after = g; forgets = subst (Forgets (c .args .tick) (contents (c .args .self .now))) (sym g) (ages (c .args .tick) (contents (c .args .self .now)) (sound-table (c .args .self .now))) }
