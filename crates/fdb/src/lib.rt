@@ -5,6 +5,8 @@ mod learning;
 mod search;
 mod station;
 mod table;
+#[cfg(test)]
+mod tests;
 mod theorems;
 
 pub use ageing::LIFETIME;
