@@ -1,70 +1,102 @@
-// Tables at their edges: full, ties, the kept station, and the last tick of an entry.
+// Tables at their edges: full, ties, the kept station, the last tick of an entry, and groups.
 use super::*;
-use crate::entry::LocationDebug;
-use crate::entry::LocationPartialEq;
 use std::test::*;
 
+// What happens to a table, and what it must then say.
+#[derive(Clone, Copy)]
+enum Step {
+    Hear { station: u16, port: u8, tick: u64, keep: u16 },
+    Forget { tick: u64 },
+    Known { station: u16, port: u8 },
+    Unknown { station: u16 },
+}
+
+use Step::Forget;
+use Step::Hear;
+use Step::Known;
+use Step::Unknown;
+
+// Stations by short numbers; from 32,768 on their addresses are those of groups.
 fn numbered(n: u16) -> Station {
     let [high, low] = n.to_be_bytes();
-    Station { address: [2, 0, 0, 0, high, low], vlan: 7 }
+    Station { address: [(n / 32768) as u8, 0, 0, 0, high, low], vlan: 7 }
+}
+
+fn port_of(location: Option<Location>) -> Option<u8> {
+    match location {
+        Some(Location::Here(port)) => Some(port),
+        _ => None,
+    }
+}
+
+// How many steps went as they must.
+fn play(table: &mut Table, steps: &[Step]) -> usize {
+    for (i, step) in steps.iter().enumerate() {
+        match *step {
+            Hear { station, port, tick, keep } => table.learn(numbered(station), Location::Here(port), tick, numbered(keep)),
+            Forget { tick } => table.forget(tick),
+            Known { station, port } => {
+                if port_of(table.lookup(numbered(station))) != Some(port) {
+                    return i;
+                }
+            }
+            Unknown { station } => {
+                if table.lookup(numbered(station)).is_some() {
+                    return i;
+                }
+            }
+        }
+    }
+    steps.len()
 }
 
 #[test]
 fn stations() -> Result<(), Fail> {
-    check(Station::new([2, 0, 0, 0, 0, 0], 4096).is_none())?;
-    check(Station::new([2, 0, 0, 0, 0, 0], 4095).is_some())?;
-    let first = Station { address: [0, 0, 0, 0, 1, 2], vlan: 4095 };
-    check_eq(first.number(), 258 * 4096 + 4095)?;
-    let last = Station { address: [255, 255, 255, 255, 255, 255], vlan: 1 };
-    check_eq(last.number(), 0xFFF_FFFF_FFFF_F001)?;
-    check(last.is_group() && !first.is_group())
+    let last = Station { address: [255, 254, 253, 252, 251, 250], vlan: 4095 };
+    check_eq(last.number(), 0xFFF_EFDF_CFBF_AFFF)?;
+    check(last.is_group() && !numbered(2).is_group() && Station::new([2, 0, 0, 0, 0, 0], 4096).is_none())
 }
 
-#[test]
-fn lifetimes(rt: LibcRuntime) -> Result<(), Fail> {
-    let mut table = Table::new(rt.alloc())?;
-    let (a, b) = (numbered(1), numbered(2));
-    table.learn(a, Location::Here(3), 1000, b);
-    for tick in 1001..1300u64 {
-        table.forget(tick);
-        check_eq(table.lookup(a), Some(Location::Here(3)))?;
-    }
-    table.forget(1300);
-    check_eq(table.lookup(a), None)?;
-    table.learn(a, Location::Here(3), 1300, b);
-    table.learn(a, Location::Behind(9), 1301, b);
-    table.forget(1600);
-    check_eq(table.lookup(a), Some(Location::Behind(9)))?;
-    table.forget(1602);
-    check_eq(table.lookup(a), None)
-}
+const LIFETIMES: [Step; 12] = [
+    Hear { station: 1, port: 3, tick: 1000, keep: 2 },
+    Forget { tick: 1299 },
+    Known { station: 1, port: 3 },
+    Forget { tick: 1300 },
+    Unknown { station: 1 },
+    Hear { station: 1, port: 3, tick: 1300, keep: 2 },
+    Hear { station: 1, port: 9, tick: 1301, keep: 2 },
+    Forget { tick: 1600 },
+    Known { station: 1, port: 9 },
+    Forget { tick: 1602 },
+    Unknown { station: 1 },
+    Unknown { station: 2 },
+];
+
+// 9000 to 4905 were heard in tick 5, in that order. 9000 is heard again and 8999 is kept, so 8998 is the first heard of those that may go.
+const FULL: [Step; 13] = [
+    Known { station: 9000, port: 1 },
+    Known { station: 4905, port: 1 },
+    Hear { station: 9000, port: 2, tick: 5, keep: 1 },
+    Known { station: 8999, port: 1 },
+    Hear { station: 1, port: 4, tick: 5, keep: 8999 },
+    Unknown { station: 8998 },
+    Known { station: 8999, port: 1 },
+    Hear { station: 2, port: 4, tick: 6, keep: 1 },
+    Unknown { station: 8999 },
+    Known { station: 9000, port: 2 },
+    Known { station: 1, port: 4 },
+    Hear { station: 40000, port: 4, tick: 6, keep: 1 },
+    Unknown { station: 40000 },
+];
 
 #[test]
-fn full(rt: LibcRuntime) -> Result<(), Fail> {
+fn edges(rt: LibcRuntime) -> Result<(), Fail> {
     let mut table = Table::new(rt.alloc())?;
+    check_eq(play(&mut table, &LIFETIMES), 12)?;
     for n in 0..4096u16 {
-        table.learn(numbered(9000 - n), Location::Behind(1), 5, numbered(1));
+        table.learn(numbered(9000 - n), Location::Here(1), 5, numbered(1));
     }
-    for n in 0..4096u16 {
-        check_eq(table.lookup(numbered(9000 - n)), Some(Location::Behind(1)))?;
-    }
-    // 9000 is heard again in the same tick and 8999 is kept, so 8998 is the first heard of those that may go.
-    table.learn(numbered(9000), Location::Here(2), 5, numbered(1));
-    table.learn(numbered(1), Location::Here(4), 5, numbered(8999));
-    check_eq(table.lookup(numbered(8998)), None)?;
-    check_eq(table.lookup(numbered(8999)), Some(Location::Behind(1)))?;
-    table.learn(numbered(2), Location::Here(4), 6, numbered(1));
-    check_eq(table.lookup(numbered(8999)), None)?;
-    check_eq(table.lookup(numbered(9000)), Some(Location::Here(2)))?;
-    check_eq(table.lookup(numbered(1)), Some(Location::Here(4)))?;
+    check_eq(play(&mut table, &FULL), 13)?;
     table.clear();
-    check_eq(table.lookup(numbered(1)), None)
-}
-
-#[test]
-fn groups(rt: LibcRuntime) -> Result<(), Fail> {
-    let mut table = Table::new(rt.alloc())?;
-    let group = Station { address: [3, 0, 0, 0, 0, 1], vlan: 7 };
-    table.learn(group, Location::Here(1), 1, group);
-    check_eq(table.lookup(group), None)
+    check(table.lookup(numbered(9000)).is_none())
 }
