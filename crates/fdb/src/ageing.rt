@@ -4,6 +4,7 @@ ghost use Prim.Native.Nat.{_≤_};
 ghost use lib.ListN.{length, take};
 ghost use Rattle.fdb.specs.Entries.{fresh, remembered};
 ghost use Rattle.fdb.specs.Contents.{aged};
+ghost use Rattle.fdb.specs.Ageing.{Forgets};
 ghost use Rattle.fdb.specs.Held.{contents};
 use crate::entry::Entry;
 use crate::table::Table;
@@ -37,7 +38,8 @@ fn keep_fresh(entries: &mut [Entry], tick: u64) -> usize
 impl Table {
     // A tick has come: what was not heard of for 300 ticks is forgotten.
     pub fn forget(&mut self, tick: u64)
-        ensures { λ _. ⌜ contents (now (self .exit)) ≡ aged tick (contents (now (self .entry))) ⌝ }
+        ensures after { λ _. ⌜ contents (now (self .exit)) ≡ aged tick (contents (now (self .entry))) ⌝ }
+        ensures forgets { λ _. ⌜ Forgets tick (contents (now (self .entry))) (contents (now (self .exit))) ⌝ }
     {
         let count = keep_fresh(self.entries.as_mut_slice(), tick);
         self.entries.truncate(count);

@@ -1,12 +1,14 @@
 // Making a table, looking a station up, and learning where one is.
 ghost use mathlib.Core.Path.{_≡_};
-ghost use mathlib.Core.Bool.{true};
+ghost use mathlib.Core.Bool.{true, false};
 ghost use Prim.Native.Nat.{_+_, _<_, _≤_};
 ghost use Rattle.std.specs.Vec.{made};
 ghost use Rattle.std.specs.Of.Vec.{vec-items, vec-len, vec-cap};
 ghost use Rattle.std.specs.declared.option.Option.the-variants.{None};
+ghost use Rattle.fdb.specs.Address.{groupAddress};
 ghost use Rattle.fdb.specs.Entries.{ascending, find, put, placeOf};
 ghost use Rattle.fdb.specs.Contents.{empty, learned, learnt, roomFor, numberOf};
+ghost use Rattle.fdb.specs.Learning.{Learns};
 ghost use Rattle.fdb.specs.Held.{held, contents};
 use crate::entry::Entry;
 use crate::entry::Location;
@@ -97,7 +99,8 @@ impl Table {
 
     // A station was heard at a place and a tick, in a frame for the station `keep`: a known one is refreshed, or has moved; a new one is taken in.
     pub fn learn(&mut self, station: Station, location: Location, tick: u64, keep: Station)
-        ensures { λ _. ⌜ contents (now (self .exit)) ≡ learnt station location tick keep (contents (now (self .entry))) ⌝ }
+        ensures after { λ _. ⌜ contents (now (self .exit)) ≡ learnt station location tick keep (contents (now (self .entry))) ⌝ }
+        ensures learns { λ _. ⌜ (groupAddress (station .address) ≡ false → Learns station location keep (contents (now (self .entry))) (contents (now (self .exit)))) ⌝ }
     {
         if station.is_group() {
             return;

@@ -5,6 +5,9 @@ mod learning;
 mod search;
 mod station;
 mod table;
+#[cfg(test)]
+mod tests;
+mod theorems;
 
 pub use ageing::LIFETIME;
 pub use entry::Entry;
@@ -12,3 +15,8 @@ pub use entry::Location;
 pub use station::Station;
 pub use table::MOST;
 pub use table::Table;
+pub use theorems::ageing_stands;
+pub use theorems::history_stands;
+pub use theorems::learning_stands;
+pub use theorems::longest_stands;
+pub use theorems::stations_stand;

@@ -7,8 +7,8 @@ ghost use Rattle.fdb.specs.Address.{stationNumber, groupAddress};
 // What the forwarding database learns of: the same address in two VLANs is two stations.
 #[derive(Clone, Copy)]
 pub struct Station {
-    address: [u8; 6],
-    vlan: u16,
+    pub address: [u8; 6],
+    pub vlan: u16,
     ghost tagged: { vlan < 4096 },
 }
 
