@@ -1,0 +1,133 @@
+-- The commands of a script, and the words that give them.
+use mathlib.Core.Bool.{cond}
+use mathlib.Core.List.{List, [], _∷_}
+use Prim.Native.Nat.{ℕ}
+use lib.Chars.{codes}
+use Rattle.std.specs.declared.option.Option.{Option}
+use Rattle.std.specs.declared.option.Option.the-variants.{Some, None}
+use Rattle.std.specs.declared.result.Result.{Result}
+use Rattle.std.specs.declared.result.Result.the-variants.{Ok, Err}
+use Rattle.std.specs.Options.{okOr}
+use Rattle.std.specs.shelf.Text.{sameBytes}
+use Rattle.script.specs.declared.parts.PortRef.{PortRef}
+use Rattle.script.specs.declared.faults.Expected.{Expected}
+use Rattle.script.specs.declared.faults.Expected.the-variants as expected
+use Rattle.script.specs.declared.lines.Command.{Command}
+use Rattle.script.specs.declared.lines.Command.the-variants as command
+use Rattle.script.specs.Parts.{numberIn, portOf, nameOf, addressOf}
+
+-- what a line says
+pub data Said : Type 0 where
+  blank : Said
+  -- box, ports, bridge number
+  bridge : ℕ → ℕ → ℕ → Said
+  -- port, vlan
+  access : PortRef → ℕ → Said
+  cable : PortRef → PortRef → Said
+  pull : PortRef → PortRef → Said
+  -- name, address, port
+  station : List ℕ → List ℕ → PortRef → Said
+  move : List ℕ → PortRef → Said
+  -- from, to, text
+  send : List ℕ → List ℕ → List ℕ → Said
+  sendAll : List ℕ → List ℕ → Said
+  tick : ℕ → Said
+  -- port, packets
+  lose : PortRef → ℕ → Said
+  fall : ℕ → Said
+  start : ℕ → Said
+  rest : Said
+
+-- what a command of the code says
+abbrev pub meant : Command → Said
+meant command.Blank = blank
+meant (command.Bridge n p k) = bridge n p k
+meant (command.Access p v) = access p v
+meant (command.Cable p q) = cable p q
+meant (command.Pull p q) = pull p q
+meant (command.Station n a p) = station (n .now) a p
+meant (command.Move n p) = move (n .now) p
+meant (command.Send a b t) = send (a .now) (b .now) (t .now)
+meant (command.SendAll a t) = sendAll (a .now) (t .now)
+meant (command.Tick n) = tick n
+meant (command.Lose p n) = lose p n
+meant (command.Fall n) = fall n
+meant (command.Start n) = start n
+meant command.Rest = rest
+
+abbrev pub told : Result Command Expected → Result Said Expected
+told (Ok c) = Ok (meant c)
+told (Err e) = Err e
+
+-- the first word, read; else what was expected
+unfoldable pub part : {A : Type 0} → (List ℕ → Option A) → Expected → List (List ℕ) → Result A Expected
+part f e [] = Err e
+part f e (w ∷ ws) = okOr (f w) e
+
+unfoldable pub tail : List (List ℕ) → List (List ℕ)
+tail [] = []
+tail (w ∷ ws) = ws
+
+-- no more words
+unfoldable pub ended : List (List ℕ) → Result (Unit {0}) Expected
+ended [] = Ok tt
+ended (w ∷ ws) = Err expected.End
+
+abbrev pub thus : {A B : Type 0} → Result A Expected → (A → Result B Expected) → Result B Expected
+thus (Ok x) k = k x
+thus (Err e) k = Err e
+
+-- the first word read, and then the others
+abbrev pub reads : {A : Type 0} → (List ℕ → Option A) → Expected → List (List ℕ) → (A → List (List ℕ) → Result Said Expected) → Result Said Expected
+reads f e ws k = thus (part f e ws) (λ x. k x (tail ws))
+
+-- no more words after what was said
+abbrev pub all-said : List (List ℕ) → Said → Result Said Expected
+all-said ws s = thus (ended ws) (λ _. Ok s)
+
+-- BOX, a box
+abbrev pub box : List (List ℕ) → (ℕ → List (List ℕ) → Result Said Expected) → Result Said Expected
+box = reads (numberIn 0 5) expected.BoxNumber
+
+-- BOX.PORT, a port
+abbrev pub port : List (List ℕ) → (PortRef → List (List ℕ) → Result Said Expected) → Result Said Expected
+port = reads portOf expected.PortName
+
+-- NAME, the name of a station
+abbrev pub name : List (List ℕ) → (List ℕ → List (List ℕ) → Result Said Expected) → Result Said Expected
+name = reads nameOf expected.Name
+
+-- nothing, or as NUMBER
+abbrev pub numbered : ℕ → ℕ → List (List ℕ) → Result Said Expected
+numbered n p [] = Ok (bridge n p n)
+numbered n p (w ∷ ws) = cond (sameBytes w (codes "as")) (reads (numberIn 0 127) expected.BridgeNumber ws (λ k ws. all-said ws (bridge n p k))) (Err expected.End)
+
+abbrev pub bridgeOf : List (List ℕ) → Result Said Expected
+bridgeOf ws = box ws (λ n ws. reads (numberIn 1 16) expected.PortCount ws (λ p ws. numbered n p ws))
+
+abbrev pub accessOf : List (List ℕ) → Result Said Expected
+accessOf ws = port ws (λ p ws. reads (numberIn 1 4094) expected.Vlan ws (λ v ws. all-said ws (access p v)))
+
+abbrev pub cableOf : List (List ℕ) → Result Said Expected
+cableOf ws = port ws (λ p ws. port ws (λ q ws. all-said ws (cable p q)))
+
+abbrev pub pullOf : List (List ℕ) → Result Said Expected
+pullOf ws = port ws (λ p ws. port ws (λ q ws. all-said ws (pull p q)))
+
+abbrev pub stationOf : List (List ℕ) → Result Said Expected
+stationOf ws = name ws (λ n ws. reads addressOf expected.Address ws (λ a ws. port ws (λ p ws. all-said ws (station n a p))))
+
+abbrev pub moveOf : List (List ℕ) → Result Said Expected
+moveOf ws = name ws (λ n ws. port ws (λ p ws. all-said ws (move n p)))
+
+abbrev pub tickOf : List (List ℕ) → Result Said Expected
+tickOf ws = reads (numberIn 1 100000) expected.Ticks ws (λ n ws. all-said ws (tick n))
+
+abbrev pub loseOf : List (List ℕ) → Result Said Expected
+loseOf ws = port ws (λ p ws. reads (numberIn 1 1000) expected.Packets ws (λ n ws. all-said ws (lose p n)))
+
+abbrev pub fallOf : List (List ℕ) → Result Said Expected
+fallOf ws = box ws (λ n ws. all-said ws (fall n))
+
+abbrev pub startOf : List (List ℕ) → Result Said Expected
+startOf ws = box ws (λ n ws. all-said ws (start n))

@@ -1,0 +1,5 @@
+pub mod Bytes
+pub mod Words
+pub mod Parts
+pub mod Reading
+pub mod Grammar

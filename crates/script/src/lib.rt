@@ -1,0 +1,10 @@
+// Reads scenario scripts, one command to a line.
+mod bytes;
+mod faults;
+mod lines;
+mod parts;
+mod reader;
+
+pub use faults::Expected;
+pub use lines::Command;
+pub use parts::PortRef;

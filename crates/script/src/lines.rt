@@ -1,0 +1,125 @@
+// One line of a script, read into a command.
+ghost use mathlib.Core.Path.{_≡_};
+ghost use Prim.Native.Nat.{ℕ, _≤_};
+ghost use Rattle.std.specs.Results.{Cases as ByOk};
+ghost use Rattle.std.specs.declared.result.Result.the-variants.{Ok, Err};
+ghost use Rattle.script.specs.Parts.{numberIn, portOf, nameOf, addressOf};
+ghost use Rattle.script.specs.Grammar.{part, tail, ended, told, bridgeOf, accessOf, cableOf, pullOf, stationOf, moveOf, tickOf, loseOf, fallOf, startOf};
+ghost use Rattle.script.specs.Reading.{left};
+use crate::bytes::same;
+use crate::faults::Expected;
+use crate::parts::PortRef;
+use crate::parts::address;
+use crate::parts::is_name;
+use crate::parts::number;
+use crate::parts::port;
+use crate::reader::Words;
+
+/// A command of a script. Names and texts are parts of its line.
+#[derive(Clone, Copy)]
+pub enum Command<'a> {
+    Blank,
+    Bridge { node: u8, ports: u8, number: u8 },
+    Access { port: PortRef, vlan: u16 },
+    Cable { one: PortRef, other: PortRef },
+    Pull { one: PortRef, other: PortRef },
+    Station { name: &'a [u8], address: [u8; 6], port: PortRef },
+    Move { name: &'a [u8], port: PortRef },
+    Send { from: &'a [u8], to: &'a [u8], text: &'a [u8] },
+    SendAll { from: &'a [u8], text: &'a [u8] },
+    Tick { ticks: u32 },
+    Lose { port: PortRef, packets: u32 },
+    Fall { node: u8 },
+    Start { node: u8 },
+    Rest,
+}
+
+/// Takes a number between two limits.
+fn next_number(words: &mut Words<'_>, low: u32, high: u32, expected: Expected) -> Result<u32, Expected>
+    ensures value { λ r. ⌜ r ≡ part (numberIn low high) expected (left (now (words .entry))) ⌝ }
+    ensures bound { λ r. ⌜ ByOk r (λ n. (low ≤ n) × (n ≤ high)) (λ _. Unit {0}) ⌝ }
+    ensures after { λ _. ⌜ left (now (words .exit)) ≡ tail (left (now (words .entry))) ⌝ }
+{
+    let Some(word) = words.next() else {
+        return Err(expected);
+    };
+    number(word, low, high).ok_or(expected)
+}
+
+/// Takes a port.
+fn next_port(words: &mut Words<'_>) -> Result<PortRef, Expected>
+    ensures value { λ r. ⌜ r ≡ part portOf Expected.PortName (left (now (words .entry))) ⌝ }
+    ensures after { λ _. ⌜ left (now (words .exit)) ≡ tail (left (now (words .entry))) ⌝ }
+{
+    let Some(word) = words.next() else {
+        return Err(Expected::PortName);
+    };
+    port(word).ok_or(Expected::PortName)
+}
+
+/// Takes an address.
+fn next_address(words: &mut Words<'_>) -> Result<[u8; 6], Expected>
+    ensures value { λ r. ⌜ r ≡ part addressOf Expected.Address (left (now (words .entry))) ⌝ }
+    ensures after { λ _. ⌜ left (now (words .exit)) ≡ tail (left (now (words .entry))) ⌝ }
+{
+    let Some(word) = words.next() else {
+        return Err(Expected::Address);
+    };
+    address(word).ok_or(Expected::Address)
+}
+
+/// Takes the name of a station.
+fn next_name<'a>(words: &mut Words<'a>) -> Result<&'a [u8], Expected>
+    ensures value { λ r. ⌜ ByOk r (λ w. part nameOf Expected.Name (left (now (words .entry))) ≡ Ok (now w)) (λ e. part nameOf Expected.Name (left (now (words .entry))) ≡ Err e) ⌝ }
+    ensures after { λ _. ⌜ left (now (words .exit)) ≡ tail (left (now (words .entry))) ⌝ }
+{
+    let Some(word) = words.next() else {
+        return Err(Expected::Name);
+    };
+    if is_name(word) { Ok(word) } else { Err(Expected::Name) }
+}
+
+/// Sees that no word is left.
+fn at_end(words: &mut Words<'_>) -> Result<(), Expected>
+    ensures { λ r. ⌜ ByOk r (λ _. ended (left (now (words .entry))) ≡ Ok tt) (λ e. ended (left (now (words .entry))) ≡ Err e) ⌝ }
+{
+    match words.next() {
+        None => Ok(()),
+        Some(_) => Err(Expected::End),
+    }
+}
+
+fn access<'a>(words: &mut Words<'a>) -> Result<Command<'a>, Expected>
+    ensures { λ r. ⌜ told r ≡ accessOf (left (now (words .entry))) ⌝ }
+{
+    let port = next_port(words)?;
+    let vlan = next_number(words, 1, 4094, Expected::Vlan)? as u16;
+    at_end(words)?;
+    Ok(Command::Access { port, vlan })
+}
+
+fn bridge<'a>(words: &mut Words<'a>) -> Result<Command<'a>, Expected>
+    ensures { λ r. ⌜ told r ≡ bridgeOf (left (now (words .entry))) ⌝ }
+{
+    let node = next_number(words, 0, 5, Expected::BoxNumber)? as u8;
+    let ports = next_number(words, 1, 16, Expected::PortCount)? as u8;
+    let Some(word) = words.next() else {
+        return Ok(Command::Bridge { node, ports, number: node });
+    };
+    if !same(word, b"as") {
+        return Err(Expected::End);
+    }
+    let number = next_number(words, 0, 127, Expected::BridgeNumber)? as u8;
+    at_end(words)?;
+    Ok(Command::Bridge { node, ports, number })
+}
+
+fn station<'a>(words: &mut Words<'a>) -> Result<Command<'a>, Expected>
+    ensures { λ r. ⌜ told r ≡ stationOf (left (now (words .entry))) ⌝ }
+{
+    let name = next_name(words)?;
+    let address = next_address(words)?;
+    let port = next_port(words)?;
+    at_end(words)?;
+    Ok(Command::Station { name, address, port })
+}
