@@ -3,6 +3,7 @@ use mathlib.Core.Bool.{cond}
 use mathlib.Core.List.{List, [], _∷_}
 use Prim.Native.Nat.{ℕ}
 use lib.Chars.{codes}
+use lib.ListN.{length}
 use Rattle.std.specs.declared.option.Option.{Option}
 use Rattle.std.specs.declared.option.Option.the-variants.{Some, None}
 use Rattle.std.specs.declared.result.Result.{Result}
@@ -14,7 +15,16 @@ use Rattle.script.specs.declared.faults.Expected.{Expected}
 use Rattle.script.specs.declared.faults.Expected.the-variants as expected
 use Rattle.script.specs.declared.lines.Command.{Command}
 use Rattle.script.specs.declared.lines.Command.the-variants as command
-use Rattle.script.specs.Parts.{numberIn, portOf, nameOf, addressOf}
+use Rattle.script.specs.declared.lines.Target.{Target}
+use Rattle.script.specs.declared.lines.Target.the-variants as target
+use Rattle.script.specs.Bytes.{between}
+use Rattle.script.specs.Words.{afterOf, skipped}
+use Rattle.script.specs.Parts.{isName, numberIn, portOf, nameOf, addressOf}
+
+-- to whom a station sends
+pub data Aim : Type 0 where
+  everyone : Aim
+  one : List ℕ → Aim
 
 -- what a line says
 pub data Said : Type 0 where
@@ -29,14 +39,17 @@ pub data Said : Type 0 where
   station : List ℕ → List ℕ → PortRef → Said
   move : List ℕ → PortRef → Said
   -- from, to, text
-  send : List ℕ → List ℕ → List ℕ → Said
-  sendAll : List ℕ → List ℕ → Said
+  send : List ℕ → Aim → List ℕ → Said
   tick : ℕ → Said
   -- port, packets
   lose : PortRef → ℕ → Said
   fall : ℕ → Said
   start : ℕ → Said
   rest : Said
+
+abbrev pub aimed : Target → Aim
+aimed target.All = everyone
+aimed (target.Station n) = one (n .now)
 
 -- what a command of the code says
 abbrev pub meant : Command → Said
@@ -47,8 +60,7 @@ meant (command.Cable p q) = cable p q
 meant (command.Pull p q) = pull p q
 meant (command.Station n a p) = station (n .now) a p
 meant (command.Move n p) = move (n .now) p
-meant (command.Send a b t) = send (a .now) (b .now) (t .now)
-meant (command.SendAll a t) = sendAll (a .now) (t .now)
+meant (command.Send a b t) = send (a .now) (aimed b) (t .now)
 meant (command.Tick n) = tick n
 meant (command.Lose p n) = lose p n
 meant (command.Fall n) = fall n
@@ -131,3 +143,21 @@ fallOf ws = box ws (λ n ws. all-said ws (fall n))
 
 abbrev pub startOf : List (List ℕ) → Result Said Expected
 startOf ws = box ws (λ n ws. all-said ws (start n))
+
+-- NAME or all
+abbrev pub aimOf : List ℕ → Option Aim
+aimOf w = cond (sameBytes w (codes "all")) (Some everyone) (cond (isName w) (Some (one w)) None)
+
+-- TEXT, of 2 to 1500 bytes
+unfoldable pub textOf : List ℕ → Result (List ℕ) Expected
+textOf t = cond (between 2 1500 (length t)) (Ok t) (Err expected.Message)
+
+-- what stands after two words
+abbrev pub textIn : List ℕ → List ℕ
+textIn bs = skipped (afterOf (afterOf bs))
+
+abbrev pub sendOf : List (List ℕ) → List ℕ → Result Said Expected
+sendOf ws t = name ws (λ n ws. reads aimOf expected.Name ws (λ a ws. thus (textOf t) (λ t. Ok (send n a t))))
+
+abbrev pub restOf : List (List ℕ) → Result Said Expected
+restOf ws = all-said ws rest

@@ -3,3 +3,4 @@ pub mod Words
 pub mod Parts
 pub mod Reading
 pub mod Grammar
+pub mod Verbs

@@ -6,3 +6,6 @@ use Rattle.script.specs.Words.{wordsOf}
 
 abbrev pub left : Words → List (List ℕ)
 left r = wordsOf (r .rest .now)
+
+abbrev pub unread : Words → List ℕ
+unread r = r .rest .now

@@ -4,7 +4,9 @@ mod faults;
 mod lines;
 mod parts;
 mod reader;
+mod verbs;
 
 pub use faults::Expected;
 pub use lines::Command;
+pub use lines::Target;
 pub use parts::PortRef;

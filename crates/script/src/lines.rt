@@ -3,9 +3,12 @@ ghost use mathlib.Core.Path.{_≡_};
 ghost use Prim.Native.Nat.{ℕ, _≤_};
 ghost use Rattle.std.specs.Results.{Cases as ByOk};
 ghost use Rattle.std.specs.declared.result.Result.the-variants.{Ok, Err};
+ghost use lib.ListN.{length};
+ghost use Rattle.script.specs.Bytes.{between};
+ghost use Rattle.script.specs.Words.{afterOf, skipped};
 ghost use Rattle.script.specs.Parts.{numberIn, portOf, nameOf, addressOf};
-ghost use Rattle.script.specs.Grammar.{part, tail, ended, told, bridgeOf, accessOf, cableOf, pullOf, stationOf, moveOf, tickOf, loseOf, fallOf, startOf};
-ghost use Rattle.script.specs.Reading.{left};
+ghost use Rattle.script.specs.Grammar.{part, tail, ended, told, aimed, aimOf, textOf, textIn, sendOf, restOf, bridgeOf, accessOf, cableOf, pullOf, stationOf, moveOf, tickOf, loseOf, fallOf, startOf};
+ghost use Rattle.script.specs.Reading.{left, unread};
 use crate::bytes::same;
 use crate::faults::Expected;
 use crate::parts::PortRef;
@@ -14,6 +17,13 @@ use crate::parts::is_name;
 use crate::parts::number;
 use crate::parts::port;
 use crate::reader::Words;
+
+/// To whom a station sends.
+#[derive(Clone, Copy)]
+pub enum Target<'a> {
+    All,
+    Station(&'a [u8]),
+}
 
 /// A command of a script. Names and texts are parts of its line.
 #[derive(Clone, Copy)]
@@ -25,8 +35,7 @@ pub enum Command<'a> {
     Pull { one: PortRef, other: PortRef },
     Station { name: &'a [u8], address: [u8; 6], port: PortRef },
     Move { name: &'a [u8], port: PortRef },
-    Send { from: &'a [u8], to: &'a [u8], text: &'a [u8] },
-    SendAll { from: &'a [u8], text: &'a [u8] },
+    Send { from: &'a [u8], to: Target<'a>, text: &'a [u8] },
     Tick { ticks: u32 },
     Lose { port: PortRef, packets: u32 },
     Fall { node: u8 },
@@ -72,11 +81,42 @@ fn next_address(words: &mut Words<'_>) -> Result<[u8; 6], Expected>
 fn next_name<'a>(words: &mut Words<'a>) -> Result<&'a [u8], Expected>
     ensures value { λ r. ⌜ ByOk r (λ w. part nameOf Expected.Name (left (now (words .entry))) ≡ Ok (now w)) (λ e. part nameOf Expected.Name (left (now (words .entry))) ≡ Err e) ⌝ }
     ensures after { λ _. ⌜ left (now (words .exit)) ≡ tail (left (now (words .entry))) ⌝ }
+    ensures rest { λ _. ⌜ unread (now (words .exit)) ≡ afterOf (unread (now (words .entry))) ⌝ }
 {
     let Some(word) = words.next() else {
         return Err(Expected::Name);
     };
     if is_name(word) { Ok(word) } else { Err(Expected::Name) }
+}
+
+/// Takes the name of a station, or the word for all of them.
+fn next_target<'a>(words: &mut Words<'a>) -> Result<Target<'a>, Expected>
+    ensures value { λ r. ⌜ ByOk r (λ t. part aimOf Expected.Name (left (now (words .entry))) ≡ Ok (aimed t)) (λ e. part aimOf Expected.Name (left (now (words .entry))) ≡ Err e) ⌝ }
+    ensures rest { λ _. ⌜ unread (now (words .exit)) ≡ afterOf (unread (now (words .entry))) ⌝ }
+{
+    let Some(word) = words.next() else {
+        return Err(Expected::Name);
+    };
+    if same(word, b"all") {
+        return Ok(Target::All);
+    }
+    if is_name(word) { Ok(Target::Station(word)) } else { Err(Expected::Name) }
+}
+
+/// Says whether a text fits a frame.
+fn is_text(text: &[u8]) -> bool
+    ensures { λ r. ⌜ r ≡ between 2 1500 (length (now (text .entry))) ⌝ }
+{
+    2 <= text.len() && text.len() <= 1500
+}
+
+/// Takes the rest of the line as a text.
+fn next_text<'a>(words: &mut Words<'a>) -> Result<&'a [u8], Expected>
+    ensures { λ r. ⌜ ByOk r (λ t. textOf (skipped (unread (now (words .entry)))) ≡ Ok (now t)) (λ e. textOf (skipped (unread (now (words .entry)))) ≡ Err e) ⌝ }
+{
+    words.skip();
+    let text = words.rest();
+    if is_text(text) { Ok(text) } else { Err(Expected::Message) }
 }
 
 /// Sees that no word is left.
@@ -122,4 +162,80 @@ fn station<'a>(words: &mut Words<'a>) -> Result<Command<'a>, Expected>
     let port = next_port(words)?;
     at_end(words)?;
     Ok(Command::Station { name, address, port })
+}
+
+fn cable<'a>(words: &mut Words<'a>) -> Result<Command<'a>, Expected>
+    ensures { λ r. ⌜ told r ≡ cableOf (left (now (words .entry))) ⌝ }
+{
+    let one = next_port(words)?;
+    let other = next_port(words)?;
+    at_end(words)?;
+    Ok(Command::Cable { one, other })
+}
+
+fn pull<'a>(words: &mut Words<'a>) -> Result<Command<'a>, Expected>
+    ensures { λ r. ⌜ told r ≡ pullOf (left (now (words .entry))) ⌝ }
+{
+    let one = next_port(words)?;
+    let other = next_port(words)?;
+    at_end(words)?;
+    Ok(Command::Pull { one, other })
+}
+
+fn relocate<'a>(words: &mut Words<'a>) -> Result<Command<'a>, Expected>
+    ensures { λ r. ⌜ told r ≡ moveOf (left (now (words .entry))) ⌝ }
+{
+    let name = next_name(words)?;
+    let port = next_port(words)?;
+    at_end(words)?;
+    Ok(Command::Move { name, port })
+}
+
+fn send<'a>(words: &mut Words<'a>) -> Result<Command<'a>, Expected>
+    ensures { λ r. ⌜ told r ≡ sendOf (left (now (words .entry))) (textIn (unread (now (words .entry)))) ⌝ }
+{
+    let from = next_name(words)?;
+    let to = next_target(words)?;
+    let text = next_text(words)?;
+    Ok(Command::Send { from, to, text })
+}
+
+fn tick<'a>(words: &mut Words<'a>) -> Result<Command<'a>, Expected>
+    ensures { λ r. ⌜ told r ≡ tickOf (left (now (words .entry))) ⌝ }
+{
+    let ticks = next_number(words, 1, 100_000, Expected::Ticks)?;
+    at_end(words)?;
+    Ok(Command::Tick { ticks })
+}
+
+fn lose<'a>(words: &mut Words<'a>) -> Result<Command<'a>, Expected>
+    ensures { λ r. ⌜ told r ≡ loseOf (left (now (words .entry))) ⌝ }
+{
+    let port = next_port(words)?;
+    let packets = next_number(words, 1, 1000, Expected::Packets)?;
+    at_end(words)?;
+    Ok(Command::Lose { port, packets })
+}
+
+fn fall<'a>(words: &mut Words<'a>) -> Result<Command<'a>, Expected>
+    ensures { λ r. ⌜ told r ≡ fallOf (left (now (words .entry))) ⌝ }
+{
+    let node = next_number(words, 0, 5, Expected::BoxNumber)? as u8;
+    at_end(words)?;
+    Ok(Command::Fall { node })
+}
+
+fn start<'a>(words: &mut Words<'a>) -> Result<Command<'a>, Expected>
+    ensures { λ r. ⌜ told r ≡ startOf (left (now (words .entry))) ⌝ }
+{
+    let node = next_number(words, 0, 5, Expected::BoxNumber)? as u8;
+    at_end(words)?;
+    Ok(Command::Start { node })
+}
+
+fn rest<'a>(words: &mut Words<'a>) -> Result<Command<'a>, Expected>
+    ensures { λ r. ⌜ told r ≡ restOf (left (now (words .entry))) ⌝ }
+{
+    at_end(words)?;
+    Ok(Command::Rest)
 }
