@@ -1,9 +1,9 @@
 -- The commands of a script, and the words that give them.
 use mathlib.Core.Bool.{cond}
 use mathlib.Core.List.{List, [], _∷_}
-use Prim.Native.Nat.{ℕ}
+use Prim.Native.Nat.{ℕ, _-_}
 use lib.Chars.{codes}
-use lib.ListN.{length}
+use lib.ListN.{length, take}
 use Rattle.std.specs.declared.option.Option.{Option}
 use Rattle.std.specs.declared.option.Option.the-variants.{Some, None}
 use Rattle.std.specs.declared.result.Result.{Result}
@@ -17,8 +17,14 @@ use Rattle.script.specs.declared.lines.Command.{Command}
 use Rattle.script.specs.declared.lines.Command.the-variants as command
 use Rattle.script.specs.declared.lines.Target.{Target}
 use Rattle.script.specs.declared.lines.Target.the-variants as target
-use Rattle.script.specs.Bytes.{between}
-use Rattle.script.specs.Words.{afterOf, skipped}
+use Rattle.std.specs.shelf.Lists.{leading, ending}
+use Rattle.script.specs.declared.bytes.Kind.{Kind}
+use Rattle.script.specs.declared.bytes.Kind.the-variants.{Blank, Plain, Code}
+use Rattle.script.specs.declared.verbs.Verb.{Verb}
+use Rattle.script.specs.declared.verbs.Verb.the-variants as verb
+use Rattle.script.specs.Verbs.{verbOf}
+use Rattle.script.specs.Bytes.{all, between, isOf}
+use Rattle.script.specs.Words.{wordsOf, afterOf, skipped}
 use Rattle.script.specs.Parts.{isName, numberIn, portOf, nameOf, addressOf}
 
 -- to whom a station sends
@@ -161,3 +167,39 @@ sendOf ws t = name ws (λ n ws. reads aimOf expected.Name ws (λ a ws. thus (tex
 
 abbrev pub restOf : List (List ℕ) → Result Said Expected
 restOf ws = all-said ws rest
+
+-- what follows the first word of a command, where t is its text
+abbrev pub saidBy : Verb → List (List ℕ) → List ℕ → Result Said Expected
+saidBy verb.Bridge ws t = bridgeOf ws
+saidBy verb.Access ws t = accessOf ws
+saidBy verb.Cable ws t = cableOf ws
+saidBy verb.Pull ws t = pullOf ws
+saidBy verb.Station ws t = stationOf ws
+saidBy verb.Move ws t = moveOf ws
+saidBy verb.Send ws t = sendOf ws t
+saidBy verb.Tick ws t = tickOf ws
+saidBy verb.Lose ws t = loseOf ws
+saidBy verb.Fall ws t = fallOf ws
+saidBy verb.Start ws t = startOf ws
+saidBy verb.Rest ws t = restOf ws
+
+abbrev pub saidFor : Option Verb → List (List ℕ) → List ℕ → Result Said Expected
+saidFor None ws t = Err expected.Command
+saidFor (Some v) ws t = saidBy v ws t
+
+-- the words of a line, where t is what follows its third word
+abbrev pub grammar : List (List ℕ) → List ℕ → Result Said Expected
+grammar [] t = Ok blank
+grammar (w ∷ ws) t = saidFor (verbOf w) ws t
+
+-- without blanks at the end
+abbrev pub trimmedOf : List ℕ → List ℕ
+trimmedOf bs = take (length bs - ending (isOf Blank) bs) bs
+
+-- what stands before a comment
+abbrev pub codeOf : List ℕ → List ℕ
+codeOf bs = trimmedOf (take (leading (isOf Code) bs) bs)
+
+-- a line of a script
+abbrev pub commandOf : List ℕ → Result Said Expected
+commandOf bs = cond (all (isOf Plain) bs) (grammar (wordsOf (codeOf bs)) (textIn (afterOf (codeOf bs)))) (Err expected.Text)

@@ -9,4 +9,5 @@ mod verbs;
 pub use faults::Expected;
 pub use lines::Command;
 pub use lines::Target;
+pub use lines::read_line;
 pub use parts::PortRef;

@@ -1,14 +1,19 @@
 // One line of a script, read into a command.
 ghost use mathlib.Core.Path.{_≡_};
-ghost use Prim.Native.Nat.{ℕ, _≤_};
+ghost use Prim.Native.Nat.{ℕ, _-_, _≤_};
 ghost use Rattle.std.specs.Results.{Cases as ByOk};
 ghost use Rattle.std.specs.declared.result.Result.the-variants.{Ok, Err};
 ghost use lib.ListN.{length};
-ghost use Rattle.script.specs.Bytes.{between};
+ghost use Rattle.std.specs.shelf.Lists.{ending};
+ghost use Rattle.script.specs.Bytes.{between, isOf};
 ghost use Rattle.script.specs.Words.{afterOf, skipped};
 ghost use Rattle.script.specs.Parts.{numberIn, portOf, nameOf, addressOf};
-ghost use Rattle.script.specs.Grammar.{part, tail, ended, told, aimed, aimOf, textOf, textIn, sendOf, restOf, bridgeOf, accessOf, cableOf, pullOf, stationOf, moveOf, tickOf, loseOf, fallOf, startOf};
+ghost use Rattle.script.specs.Grammar.{part, tail, ended, told, aimed, aimOf, textOf, textIn, sendOf, restOf, saidBy, codeOf, commandOf, bridgeOf, accessOf, cableOf, pullOf, stationOf, moveOf, tickOf, loseOf, fallOf, startOf};
 ghost use Rattle.script.specs.Reading.{left, unread};
+use crate::bytes::Kind;
+use crate::bytes::all_of;
+use crate::bytes::is_of;
+use crate::bytes::run;
 use crate::bytes::same;
 use crate::faults::Expected;
 use crate::parts::PortRef;
@@ -17,6 +22,8 @@ use crate::parts::is_name;
 use crate::parts::number;
 use crate::parts::port;
 use crate::reader::Words;
+use crate::verbs::Verb;
+use crate::verbs::find;
 
 /// To whom a station sends.
 #[derive(Clone, Copy)]
@@ -238,4 +245,62 @@ fn rest<'a>(words: &mut Words<'a>) -> Result<Command<'a>, Expected>
 {
     at_end(words)?;
     Ok(Command::Rest)
+}
+
+/// Reads what follows the first word of a command.
+fn read_command<'a>(verb: Verb, words: &mut Words<'a>) -> Result<Command<'a>, Expected>
+    ensures { λ r. ⌜ told r ≡ saidBy verb (left (now (words .entry))) (textIn (unread (now (words .entry)))) ⌝ }
+{
+    match verb {
+        Verb::Bridge => bridge(words),
+        Verb::Access => access(words),
+        Verb::Cable => cable(words),
+        Verb::Pull => pull(words),
+        Verb::Station => station(words),
+        Verb::Move => relocate(words),
+        Verb::Send => send(words),
+        Verb::Tick => tick(words),
+        Verb::Lose => lose(words),
+        Verb::Fall => fall(words),
+        Verb::Start => start(words),
+        Verb::Rest => rest(words),
+    }
+}
+
+/// How long a line is without the blanks at its end, which are no part of a text.
+fn trimmed_len(bytes: &[u8]) -> usize
+    ensures value { λ r. ⌜ r ≡ length (now (bytes .entry)) - ending (isOf Kind.Blank) (now (bytes .entry)) ⌝ }
+    ensures within { λ r. ⌜ r ≤ length (now (bytes .entry)) ⌝ }
+{
+    let mut n = bytes.len();
+    while 0 < n && is_of(Kind::Blank, bytes[n - 1]) {
+        n -= 1;
+    }
+    n
+}
+
+/// A line without its comment.
+fn code(line: &[u8]) -> &[u8]
+    ensures { λ r. ⌜ now r ≡ codeOf (now (line .entry)) ⌝ }
+{
+    let (before, _) = line.split_at(run(line, Kind::Code));
+    let (trimmed, _) = before.split_at(trimmed_len(before));
+    trimmed
+}
+
+/// Reads a line: the command that it gives, or what was expected where it is at fault.
+pub fn read_line(line: &[u8]) -> Result<Command<'_>, Expected>
+    ensures { λ r. ⌜ told r ≡ commandOf (now (line .entry)) ⌝ }
+{
+    if !all_of(line, Kind::Plain) {
+        return Err(Expected::Text);
+    }
+    let mut words = Words::new(code(line));
+    let Some(word) = words.next() else {
+        return Ok(Command::Blank);
+    };
+    let Some(verb) = find(word) else {
+        return Err(Expected::Command);
+    };
+    read_command(verb, &mut words)
 }
