@@ -6,7 +6,7 @@ use Prim.Native.Nat.{ℕ}
 use lib.Chars.{codes}
 use lib.ListN.{length}
 use Rattle.std.specs.shelf.Text.{sameBytes}
-use Rattle.script.specs.Bytes.{between}
+use Rattle.scan.specs.Bytes.{between}
 use Rattle.std.specs.declared.option.Option.{Option}
 use Rattle.std.specs.declared.option.Option.the-variants.{Some, None}
 use Rattle.std.specs.declared.result.Result.{Result}
@@ -16,7 +16,7 @@ use Rattle.std.specs.Results as results
 use Rattle.std.proofs.shelf.Tests.{cond-true, cond-false}
 use Rattle.script.specs.declared.faults.Expected.{Expected}
 use Rattle.script.specs.declared.faults.Expected.the-variants as expected
-use Rattle.script.specs.Parts.{isName, nameOf}
+use Rattle.scan.specs.Parts.{isName, nameOf}
 use Rattle.script.specs.Grammar.{part, tail, ended, Aim, everyone, one, aimOf, textOf}
 
 pub part-none : {A : Type 0} (f : List ℕ → Option A) (e : Expected) {ws : List (List ℕ)} → ws ≡ [] → part f e ws ≡ Err e

@@ -10,7 +10,7 @@ use Rattle.std.specs.declared.result.Result.{Result}
 use Rattle.std.specs.declared.result.Result.the-variants.{Ok, Err}
 use Rattle.std.specs.Options.{okOr}
 use Rattle.std.specs.shelf.Text.{sameBytes}
-use Rattle.script.specs.declared.parts.PortRef.{PortRef}
+use Rattle.scan.specs.declared.parts.PortRef.{PortRef}
 use Rattle.script.specs.declared.faults.Expected.{Expected}
 use Rattle.script.specs.declared.faults.Expected.the-variants as expected
 use Rattle.script.specs.declared.lines.Command.{Command}
@@ -18,14 +18,14 @@ use Rattle.script.specs.declared.lines.Command.the-variants as command
 use Rattle.script.specs.declared.lines.Target.{Target}
 use Rattle.script.specs.declared.lines.Target.the-variants as target
 use Rattle.std.specs.shelf.Lists.{leading, ending}
-use Rattle.script.specs.declared.bytes.Kind.{Kind}
-use Rattle.script.specs.declared.bytes.Kind.the-variants.{Blank, Plain, Code}
+use Rattle.scan.specs.declared.bytes.Kind.{Kind}
+use Rattle.scan.specs.declared.bytes.Kind.the-variants.{Blank, Plain, Code}
 use Rattle.script.specs.declared.verbs.Verb.{Verb}
 use Rattle.script.specs.declared.verbs.Verb.the-variants as verb
 use Rattle.script.specs.Verbs.{verbOf}
-use Rattle.script.specs.Bytes.{all, between, isOf}
-use Rattle.script.specs.Words.{wordsOf, afterOf, skipped}
-use Rattle.script.specs.Parts.{isName, numberIn, portOf, nameOf, addressOf}
+use Rattle.scan.specs.Bytes.{all, between, isOf}
+use Rattle.scan.specs.Words.{wordsOf, afterOf, skipped}
+use Rattle.scan.specs.Parts.{isName, numberIn, portOf, nameOf, addressOf}
 
 -- to whom a station sends
 pub data Aim : Type 0 where

@@ -1,6 +1,2 @@
-pub mod Bytes
-pub mod Words
-pub mod Parts
-pub mod Reading
 pub mod Grammar
 pub mod Verbs

@@ -1,7 +1,7 @@
 // The word that begins a command.
 ghost use mathlib.Core.Path.{_≡_};
 ghost use Rattle.script.specs.Verbs.{verbOf};
-use crate::bytes::same;
+use scan::bytes::same;
 
 /// The commands by their first word.
 #[derive(Clone, Copy)]

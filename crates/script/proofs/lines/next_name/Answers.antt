@@ -1,6 +1,6 @@
 use mathlib.Core.Path.{sym}
 use Rattle.script.specs.declared.faults.Expected.the-variants as expected
-use Rattle.script.specs.Parts.{nameOf}
+use Rattle.scan.specs.Parts.{nameOf}
 use Rattle.script.proofs.Taking.{part-none, name-yes, name-no, tail-none, tail-some}
 use Rattle.script.proofs.lines.next_name.Needs as need
 

@@ -1,6 +1,6 @@
 use mathlib.Core.Path.{sym}
 use Rattle.script.specs.declared.faults.Expected.the-variants as expected
-use Rattle.script.specs.Parts.{numberIn}
+use Rattle.scan.specs.Parts.{numberIn}
 use Rattle.script.proofs.Taking.{part-none, part-some, tail-none, tail-some, ok-bound}
 use Rattle.script.proofs.lines.next_number.Needs as need
 

@@ -5,8 +5,8 @@ use lib.ListN.{length, take}
 use Rattle.std.specs.shelf.Lists.{ending}
 use Rattle.std.proofs.shelf.Lists.{take-all}
 use Rattle.std.proofs.shelf.Sums.{ending-take-yes, ending-take-no, ending-le-length}
-use Rattle.script.specs.declared.bytes.Kind.the-variants.{Blank}
-use Rattle.script.specs.Bytes.{isOf}
+use Rattle.scan.specs.declared.bytes.Kind.the-variants.{Blank}
+use Rattle.scan.specs.Bytes.{isOf}
 use Rattle.script.proofs.lines.trimmed_len.Needs as need
 
 pub loop-n-holds : need.loop-n-holds

@@ -2,8 +2,8 @@ use Prim.Native.Nat.{_+_, _≤_}
 use mathlib.Core.Path.{_≡_}
 use lib.ListN.{length, take}
 use Rattle.std.specs.shelf.Lists.{ending}
-use Rattle.script.specs.declared.bytes.Kind.the-variants.{Blank}
-use Rattle.script.specs.Bytes.{isOf}
+use Rattle.scan.specs.declared.bytes.Kind.the-variants.{Blank}
+use Rattle.scan.specs.Bytes.{isOf}
 use Rattle.script.proofs.lines.trimmed_len.Given as given
 
 abbrev pub Inv-loop-n : given.InvT-loop-n

@@ -3,8 +3,8 @@ use mathlib.Core.Bool.{Bool, true, false, not, _&&_, _||_}
 use mathlib.Core.List.{List, [], _∷_}
 use Prim.Native.Nat.{ℕ}
 use lib.Dec.{eqb, leb}
-use Rattle.script.specs.declared.bytes.Kind.{Kind}
-use Rattle.script.specs.declared.bytes.Kind.the-variants.{Blank, Solid, Plain, Code, Digit, Letter}
+use Rattle.scan.specs.declared.bytes.Kind.{Kind}
+use Rattle.scan.specs.declared.bytes.Kind.the-variants.{Blank, Solid, Plain, Code, Digit, Letter}
 
 -- space, tab and carriage return
 abbrev pub blank : ℕ → Bool

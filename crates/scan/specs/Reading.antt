@@ -1,8 +1,8 @@
 -- What a reader has left.
 use mathlib.Core.List.{List}
 use Prim.Native.Nat.{ℕ}
-use Rattle.script.specs.declared.reader.Words.{Words}
-use Rattle.script.specs.Words.{wordsOf}
+use Rattle.scan.specs.declared.reader.Words.{Words}
+use Rattle.scan.specs.Words.{wordsOf}
 
 abbrev pub left : Words → List (List ℕ)
 left r = wordsOf (r .rest .now)

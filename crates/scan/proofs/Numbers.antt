@@ -8,7 +8,7 @@ use lib.ListN.{length, getD, drop}
 use Rattle.std.proofs.shelf.Lists.{at-drop-more, at-drop-all}
 use Rattle.std.specs.declared.option.Option.the-variants.{Some, None}
 use Rattle.std.proofs.shelf.Ways.{tells}
-use Rattle.script.specs.Parts.{isDigits, numberIn, valueAfter}
+use Rattle.scan.specs.Parts.{isDigits, numberIn, valueAfter}
 
 -- a value grows with each digit
 pub grows : (v : ℕ) (ds : List ℕ) → v ≤ valueAfter v ds

@@ -3,9 +3,9 @@ use mathlib.Core.List.{_∷_}
 use native.Mathlib.Omega.{arith}
 use lib.ListN.{length}
 use borrow.Author.Tests.{true-eqb, false-eqb}
-use Rattle.script.specs.Words.{wordsOf}
-use Rattle.script.proofs.Wording.{no-word, none-after, next-word, cut-word}
-use Rattle.script.proofs.reader.Words.next.Needs as need
+use Rattle.scan.specs.Words.{wordsOf}
+use Rattle.scan.proofs.Wording.{no-word, none-after, next-word, cut-word}
+use Rattle.scan.proofs.reader.Words.next.Needs as need
 
 pub returns-then-is-empty : need.returns-then-is-empty
 returns-then-is-empty c =

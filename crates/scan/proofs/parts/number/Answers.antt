@@ -2,9 +2,9 @@ use mathlib.Core.Path.{_≡_, sym, ap, _∙_}
 use Prim.Native.Nat.{_-_}
 use native.Mathlib.Omega.{arith}
 use borrow.Author.Needs.{needs}
-use Rattle.script.specs.Parts.{valueAfter}
-use Rattle.script.proofs.Numbers.{over, no-digits, too-high, too-low, in-range, step, all-read}
-use Rattle.script.proofs.parts.number.Needs as need
+use Rattle.scan.specs.Parts.{valueAfter}
+use Rattle.scan.proofs.Numbers.{over, no-digits, too-high, too-low, in-range, step, all-read}
+use Rattle.scan.proofs.parts.number.Needs as need
 
 pub returns-then-not-is-digits : need.returns-then-not-is-digits
 returns-then-not-is-digits c = record { value = no-digits _ _ _ (sym (c .if-not-is-digits .ensures tt)); bound = tt }

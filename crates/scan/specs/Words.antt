@@ -4,9 +4,9 @@ use mathlib.Core.List.{List, [], _∷_}
 use Prim.Native.Nat.{ℕ}
 use lib.ListN.{take, drop}
 use Rattle.std.specs.shelf.Lists.{leading}
-use Rattle.script.specs.declared.bytes.Kind.{Kind}
-use Rattle.script.specs.declared.bytes.Kind.the-variants.{Blank, Solid}
-use Rattle.script.specs.Bytes.{blank, isOf}
+use Rattle.scan.specs.declared.bytes.Kind.{Kind}
+use Rattle.scan.specs.declared.bytes.Kind.the-variants.{Blank, Solid}
+use Rattle.scan.specs.Bytes.{blank, isOf}
 
 -- b before the first of the words ws, or before a blank or the end, where it is a word by itself
 abbrev pub before : ℕ → List ℕ → List (List ℕ) → List (List ℕ)

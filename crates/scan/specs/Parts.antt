@@ -10,10 +10,10 @@ use Rattle.std.specs.declared.option.Option.the-variants.{Some, None}
 use Rattle.std.specs.Iters.{folded}
 use Rattle.std.specs.shelf.Lists.{leading}
 use Rattle.std.specs.shelf.Text.{sameBytes}
-use Rattle.script.specs.declared.bytes.Kind.{Kind}
-use Rattle.script.specs.declared.bytes.Kind.the-variants.{Digit, Letter}
-use Rattle.script.specs.declared.parts.PortRef.{PortRef}
-use Rattle.script.specs.Bytes.{all, between, isOf}
+use Rattle.scan.specs.declared.bytes.Kind.{Kind}
+use Rattle.scan.specs.declared.bytes.Kind.the-variants.{Digit, Letter}
+use Rattle.scan.specs.declared.parts.PortRef.{PortRef}
+use Rattle.scan.specs.Bytes.{all, between, isOf}
 
 -- the number that decimal digits write, after the number v
 abbrev pub valueAfter : ℕ → List ℕ → ℕ

@@ -1,8 +1,8 @@
 use mathlib.Core.Path.{sym}
 use native.Mathlib.Omega.{arith}
 use Rattle.std.proofs.shelf.Sums.{leading-drop-yes, leading-drop-no, leading-drop-all}
-use Rattle.script.specs.Bytes.{isOf}
-use Rattle.script.proofs.bytes.run.Needs as need
+use Rattle.scan.specs.Bytes.{isOf}
+use Rattle.scan.proofs.bytes.run.Needs as need
 
 pub loop-n-again : need.loop-n-again
 loop-n-again c =

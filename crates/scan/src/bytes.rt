@@ -4,7 +4,7 @@ ghost use Prim.Native.Nat.{ℕ, _+_, _<_, _≤_};
 ghost use lib.ListN.{length, getD, take, drop};
 ghost use Rattle.std.specs.shelf.Lists.{leading};
 ghost use Rattle.std.specs.shelf.Text.{sameBytes};
-ghost use Rattle.script.specs.Bytes.{all, isOf};
+ghost use Rattle.scan.specs.Bytes.{all, isOf};
 
 /// The kinds of bytes that a script tells apart.
 #[derive(Clone, Copy)]

@@ -11,10 +11,10 @@ use lib.ListN.{length, take, drop}
 use Rattle.std.specs.shelf.Lists.{leading}
 use Rattle.std.proofs.shelf.Ways.{tells}
 use Rattle.std.proofs.shelf.Tests.{cond-true, cond-false}
-use Rattle.script.specs.declared.bytes.Kind.{Kind}
-use Rattle.script.specs.declared.bytes.Kind.the-variants.{Blank, Solid}
-use Rattle.script.specs.Bytes.{all, blank, isOf}
-use Rattle.script.specs.Words.{wordsOf, before, skipped, afterOf, firstOf}
+use Rattle.scan.specs.declared.bytes.Kind.{Kind}
+use Rattle.scan.specs.declared.bytes.Kind.the-variants.{Blank, Solid}
+use Rattle.scan.specs.Bytes.{all, blank, isOf}
+use Rattle.scan.specs.Words.{wordsOf, before, skipped, afterOf, firstOf}
 
 module _ (p : ℕ → Bool) (b : ℕ) (bs : List ℕ) where
   lead-yes : p b ≡ true → leading p (b ∷ bs) ≡ suc (leading p bs)

@@ -3,7 +3,7 @@ ghost use mathlib.Core.Path.{_≡_};
 ghost use mathlib.Core.List.{List, [], _∷_};
 ghost use lib.ListN.{length};
 ghost use Rattle.std.specs.Options.{Cases as BySome};
-ghost use Rattle.script.specs.Words.{wordsOf, firstOf, afterOf, skipped};
+ghost use Rattle.scan.specs.Words.{wordsOf, firstOf, afterOf, skipped};
 use crate::bytes::Kind;
 use crate::bytes::run;
 

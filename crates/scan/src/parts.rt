@@ -5,7 +5,7 @@ ghost use Prim.Native.Nat.{ℕ, _+_, _<_, _≤_};
 ghost use lib.Dec.{eqb};
 ghost use lib.ListN.{length, getD};
 ghost use Rattle.std.specs.Options.{Cases as BySome};
-ghost use Rattle.script.specs.Parts.{isDigits, numberIn, portOf, isName, hexOf, pairAt, colons, addressOf};
+ghost use Rattle.scan.specs.Parts.{isDigits, numberIn, portOf, isName, hexOf, pairAt, colons, addressOf};
 use crate::bytes::Kind;
 use crate::bytes::all_of;
 use crate::bytes::run;
