@@ -93,9 +93,9 @@ no-word bs e = go (skipped-shape bs)
     go : (skipped bs ≡ []) ⊎ ((b : ℕ) × (cs : List ℕ) × (skipped bs ≡ b ∷ cs) × (blank b ≡ false)) → wordsOf bs ≡ []
     go (inl h) = words-skip bs ∙ ap wordsOf h ∙ words-none
     go (inr (b, cs, h, k)) = absurd (
-      let z : take (leading solid (skipped bs)) (skipped bs) ≡ b ∷ take (leading solid cs) cs = ap (λ s. take (leading solid s) s) h ∙ take-yes solid b cs (not-blank b false k) in
-      omega (arith, ap length z)
-    )
+        let z : take (leading solid (skipped bs)) (skipped bs) ≡ b ∷ take (leading solid cs) cs = ap (λ s. take (leading solid s) s) h ∙ take-yes solid b cs (not-blank b false k) in
+        omega (arith, ap length z)
+        )
 
 pub none-after : (bs : List ℕ) → length (firstOf bs) ≡ 0 → wordsOf (afterOf bs) ≡ []
 none-after bs e = go (skipped-shape bs)
@@ -103,9 +103,9 @@ none-after bs e = go (skipped-shape bs)
     go : (skipped bs ≡ []) ⊎ ((b : ℕ) × (cs : List ℕ) × (skipped bs ≡ b ∷ cs) × (blank b ≡ false)) → wordsOf (afterOf bs) ≡ []
     go (inl h) = ap (λ s. wordsOf (drop (leading solid s) s)) h ∙ words-none
     go (inr (b, cs, h, k)) = absurd (
-      let z : take (leading solid (skipped bs)) (skipped bs) ≡ b ∷ take (leading solid cs) cs = ap (λ s. take (leading solid s) s) h ∙ take-yes solid b cs (not-blank b false k) in
-      omega (arith, ap length z)
-    )
+        let z : take (leading solid (skipped bs)) (skipped bs) ≡ b ∷ take (leading solid cs) cs = ap (λ s. take (leading solid s) s) h ∙ take-yes solid b cs (not-blank b false k) in
+        omega (arith, ap length z)
+        )
 
 pub next-word : (bs : List ℕ) → (length (firstOf bs) ≡ 0 → ⊥) → wordsOf bs ≡ firstOf bs ∷ wordsOf (afterOf bs)
 next-word bs e = go (skipped-shape bs)

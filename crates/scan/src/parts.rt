@@ -40,7 +40,11 @@ pub fn number(word: &[u8], low: u32, high: u32) -> Option<u32>
             return None;
         }
     }
-    if value < u64::from(low) { None } else { Some(value as u32) }
+    if value < u64::from(low) {
+        None
+    } else {
+        Some(value as u32)
+    }
 }
 
 /// Says whether a dot stands at a place.
@@ -112,5 +116,12 @@ pub fn address(word: &[u8]) -> Option<[u8; 6]>
     if first % 2 == 1 {
         return None;
     }
-    Some([first, pair(word, 3)?, pair(word, 6)?, pair(word, 9)?, pair(word, 12)?, pair(word, 15)?])
+    Some([
+        first,
+        pair(word, 3)?,
+        pair(word, 6)?,
+        pair(word, 9)?,
+        pair(word, 12)?,
+        pair(word, 15)?,
+    ])
 }

@@ -49,7 +49,8 @@ impl Expected {
             Expected::PortName => "a port, as BOX.PORT",
             Expected::Vlan => "a VLAN from 1 to 4094",
             Expected::Name => "a name of 1 to 16 letters, digits or '-', and not 'all'",
-            Expected::Address => "an address of six hex pairs with colons, whose first byte is even",
+            Expected::Address =>
+                "an address of six hex pairs with colons, whose first byte is even",
             Expected::Message => "a text of 2 to 1500 bytes",
             Expected::Ticks => "a number of ticks from 1 to 100000",
             Expected::Packets => "a number of packets from 1 to 1000",

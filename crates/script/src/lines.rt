@@ -10,20 +10,20 @@ ghost use Rattle.scan.specs.Words.{afterOf, skipped};
 ghost use Rattle.scan.specs.Parts.{numberIn, portOf, nameOf, addressOf};
 ghost use Rattle.script.specs.Grammar.{part, tail, ended, told, aimed, aimOf, textOf, textIn, sendOf, restOf, saidBy, codeOf, commandOf, bridgeOf, accessOf, cableOf, pullOf, stationOf, moveOf, tickOf, loseOf, fallOf, startOf};
 ghost use Rattle.scan.specs.Reading.{left, unread};
+use crate::faults::Expected;
+use crate::verbs::Verb;
+use crate::verbs::find;
 use scan::bytes::Kind;
 use scan::bytes::all_of;
 use scan::bytes::is_of;
 use scan::bytes::run;
 use scan::bytes::same;
-use crate::faults::Expected;
 use scan::parts::PortRef;
 use scan::parts::address;
 use scan::parts::is_name;
 use scan::parts::number;
 use scan::parts::port;
 use scan::reader::Words;
-use crate::verbs::Verb;
-use crate::verbs::find;
 
 /// To whom a station sends.
 #[derive(Clone, Copy)]
@@ -36,22 +36,60 @@ pub enum Target<'a> {
 #[derive(Clone, Copy)]
 pub enum Command<'a> {
     Blank,
-    Bridge { node: u8, ports: u8, number: u8 },
-    Access { port: PortRef, vlan: u16 },
-    Cable { one: PortRef, other: PortRef },
-    Pull { one: PortRef, other: PortRef },
-    Station { name: &'a [u8], address: [u8; 6], port: PortRef },
-    Move { name: &'a [u8], port: PortRef },
-    Send { from: &'a [u8], to: Target<'a>, text: &'a [u8] },
-    Tick { ticks: u32 },
-    Lose { port: PortRef, packets: u32 },
-    Fall { node: u8 },
-    Start { node: u8 },
+    Bridge {
+        node: u8,
+        ports: u8,
+        number: u8,
+    },
+    Access {
+        port: PortRef,
+        vlan: u16,
+    },
+    Cable {
+        one: PortRef,
+        other: PortRef,
+    },
+    Pull {
+        one: PortRef,
+        other: PortRef,
+    },
+    Station {
+        name: &'a [u8],
+        address: [u8; 6],
+        port: PortRef,
+    },
+    Move {
+        name: &'a [u8],
+        port: PortRef,
+    },
+    Send {
+        from: &'a [u8],
+        to: Target<'a>,
+        text: &'a [u8],
+    },
+    Tick {
+        ticks: u32,
+    },
+    Lose {
+        port: PortRef,
+        packets: u32,
+    },
+    Fall {
+        node: u8,
+    },
+    Start {
+        node: u8,
+    },
     Rest,
 }
 
 /// Takes a number between two limits.
-fn next_number(words: &mut Words<'_>, low: u32, high: u32, expected: Expected) -> Result<u32, Expected>
+fn next_number(
+    words: &mut Words<'_>,
+    low: u32,
+    high: u32,
+    expected: Expected,
+) -> Result<u32, Expected>
     ensures value { λ r. ⌜ r ≡ part (numberIn low high) expected (left (now (words .entry))) ⌝ }
     ensures bound { λ r. ⌜ ByOk r (λ n. (low ≤ n) × (n ≤ high)) (λ _. Unit {0}) ⌝ }
     ensures after { λ _. ⌜ left (now (words .exit)) ≡ tail (left (now (words .entry))) ⌝ }
@@ -93,7 +131,11 @@ fn next_name<'a>(words: &mut Words<'a>) -> Result<&'a [u8], Expected>
     let Some(word) = words.next() else {
         return Err(Expected::Name);
     };
-    if is_name(word) { Ok(word) } else { Err(Expected::Name) }
+    if is_name(word) {
+        Ok(word)
+    } else {
+        Err(Expected::Name)
+    }
 }
 
 /// Takes the name of a station, or the word for all of them.
@@ -107,7 +149,11 @@ fn next_target<'a>(words: &mut Words<'a>) -> Result<Target<'a>, Expected>
     if same(word, b"all") {
         return Ok(Target::All);
     }
-    if is_name(word) { Ok(Target::Station(word)) } else { Err(Expected::Name) }
+    if is_name(word) {
+        Ok(Target::Station(word))
+    } else {
+        Err(Expected::Name)
+    }
 }
 
 /// Says whether a text fits a frame.
@@ -123,7 +169,11 @@ fn next_text<'a>(words: &mut Words<'a>) -> Result<&'a [u8], Expected>
 {
     words.skip();
     let text = words.rest();
-    if is_text(text) { Ok(text) } else { Err(Expected::Message) }
+    if is_text(text) {
+        Ok(text)
+    } else {
+        Err(Expected::Message)
+    }
 }
 
 /// Sees that no word is left.
@@ -151,14 +201,22 @@ fn bridge<'a>(words: &mut Words<'a>) -> Result<Command<'a>, Expected>
     let node = next_number(words, 0, 5, Expected::BoxNumber)? as u8;
     let ports = next_number(words, 1, 16, Expected::PortCount)? as u8;
     let Some(word) = words.next() else {
-        return Ok(Command::Bridge { node, ports, number: node });
+        return Ok(Command::Bridge {
+            node,
+            ports,
+            number: node,
+        });
     };
     if !same(word, b"as") {
         return Err(Expected::End);
     }
     let number = next_number(words, 0, 127, Expected::BridgeNumber)? as u8;
     at_end(words)?;
-    Ok(Command::Bridge { node, ports, number })
+    Ok(Command::Bridge {
+        node,
+        ports,
+        number,
+    })
 }
 
 fn station<'a>(words: &mut Words<'a>) -> Result<Command<'a>, Expected>
@@ -168,7 +226,11 @@ fn station<'a>(words: &mut Words<'a>) -> Result<Command<'a>, Expected>
     let address = next_address(words)?;
     let port = next_port(words)?;
     at_end(words)?;
-    Ok(Command::Station { name, address, port })
+    Ok(Command::Station {
+        name,
+        address,
+        port,
+    })
 }
 
 fn cable<'a>(words: &mut Words<'a>) -> Result<Command<'a>, Expected>
