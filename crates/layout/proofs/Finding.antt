@@ -87,5 +87,5 @@ moved ns v n p i s has at lt access is =
     let low : i < length (vec-items v) = omega (arith, v .ok .0) in
     let here : getD ss i noStation ≡ placed s = getD-map placed (vec-items v) i s noStation low ∙ ap placed (sym is) in
     rw (has, ← access) (ap (λ x. Ok x) (
-      ap (λ k. set ss k (putAt (getD ss k noStation) p)) (sym at) ∙ ap (λ q. set ss i (putAt q p)) here ∙ sym (map-set placed (vec-items v) i (record { name = s .name; address = s .address; port = p }))
+    ap (λ k. set ss k (putAt (getD ss k noStation) p)) (sym at) ∙ ap (λ q. set ss i (putAt q p)) here ∙ sym (map-set placed (vec-items v) i (record { name = s .name; address = s .address; port = p }))
     ))

@@ -2,4 +2,5 @@
 pub mod names;
 pub mod net;
 pub mod roster;
+pub mod session;
 pub mod stations;

@@ -28,7 +28,10 @@ impl Layout {
         ensures { λ r. ⌜ made r (λ l. stateOf l ≡ emptyState) ⌝ }
     {
         let roster = Roster::new(heap)?;
-        Ok(Layout { wiring: Wiring::new(), roster })
+        Ok(Layout {
+            wiring: Wiring::new(),
+            roster,
+        })
     }
 
     /// The boxes and cables.
@@ -61,11 +64,19 @@ impl Layout {
         ensures { λ r. ⌜ Did (applied (stateOf (now (self .entry))) (meant (command .entry))) r (stateOf (now (self .entry))) (stateOf (now (self .exit))) ⌝ }
     {
         match command {
-            Command::Bridge { node, ports, number } => self.wiring.add_box(node, ports, number),
+            Command::Bridge {
+                node,
+                ports,
+                number,
+            } => self.wiring.add_box(node, ports, number),
             Command::Access { port, vlan } => self.wiring.set_access(port, vlan),
             Command::Cable { one, other } => self.wiring.plug(one, other),
             Command::Pull { one, other } => self.wiring.pull(one, other),
-            Command::Station { name, address, port } => self.roster.add(&self.wiring, name, address, port),
+            Command::Station {
+                name,
+                address,
+                port,
+            } => self.roster.add(&self.wiring, name, address, port),
             Command::Move { name, port } => self.roster.relocate(&self.wiring, name, port),
             Command::Send { from, to, .. } => self.want_ends(from, to),
             Command::Lose { port, .. } => want_there(self.wiring.port(port)),

@@ -43,7 +43,13 @@ impl Roster {
     }
 
     /// Adds a station at an access port.
-    pub fn add(&mut self, wiring: &Wiring, name: &[u8], address: [u8; 6], port: PortRef) -> Result<(), Expected>
+    pub fn add(
+        &mut self,
+        wiring: &Wiring,
+        name: &[u8],
+        address: [u8; 6],
+        port: PortRef,
+    ) -> Result<(), Expected>
         ensures { λ r. ⌜ Did (stationAdded (now (wiring .entry) .nodes) (placedIn (now (self .entry) .list)) (now (name .entry)) address port) r (placedIn (now (self .entry) .list)) (placedIn (now (self .exit) .list)) ⌝ }
     {
         let Some(kept) = Name::new(name) else {
@@ -59,7 +65,11 @@ impl Roster {
         if self.list.len() >= 32 {
             return Err(Expected::StationRoom);
         }
-        self.list.push_reserved(Station { name: kept, address, port });
+        self.list.push_reserved(Station {
+            name: kept,
+            address,
+            port,
+        });
         Ok(())
     }
 
@@ -104,6 +114,10 @@ impl Roster {
     pub fn want(&self, name: &[u8]) -> Result<(), Expected>
         ensures { λ r. ⌜ r ≡ wantStation (now (name .entry)) (placedIn (now (self .entry) .list)) ⌝ }
     {
-        if self.has_name(name) { Ok(()) } else { Err(Expected::StationThere) }
+        if self.has_name(name) {
+            Ok(())
+        } else {
+            Err(Expected::StationThere)
+        }
     }
 }

@@ -13,6 +13,7 @@ pub enum Kind {
     Solid,
     Plain,
     Code,
+    Line,
     Digit,
     Letter,
 }
@@ -26,6 +27,7 @@ pub fn is_of(kind: Kind, b: u8) -> bool
         Kind::Solid => !(b == b' ' || b == b'\t' || b == b'\r'),
         Kind::Plain => b == b'\t' || b == b'\r' || 32 <= b && b <= 126,
         Kind::Code => b != b'#',
+        Kind::Line => b != b'\n',
         Kind::Digit => b'0' <= b && b <= b'9',
         Kind::Letter => b.is_ascii_alphanumeric() || b == b'-',
     }

@@ -1,8 +1,11 @@
 // What a script lacks where it can't be read on.
+ghost use mathlib.Core.Path.{_≡_};
+ghost use Rattle.std.specs.declared.option.Option.the-variants.{Some};
+ghost use Rattle.script.specs.Faults.{wordsFor};
 use std::fmt;
 
 /// What was expected where a line is at fault, to tell its author.
-#[derive(Clone, Copy, PartialEq, Eq, Debug)]
+#[derive(Clone, Copy, PartialEq, Debug)]
 pub enum Expected {
     Text,
     Command,
@@ -31,7 +34,9 @@ pub enum Expected {
     BoxOff,
 }
 
-impl fmt::Display for Expected as ExpectedDisplay {
+pub impl fmt::Display for Expected as ExpectedDisplay {
+    ghost shown = { λ e. Some (wordsFor e) };
+
     fn fmt<W: fmt::Write>(&self, f: &mut fmt::Formatter<W>) -> fmt::Result {
         f.write_str(self.words())
     }
@@ -39,7 +44,9 @@ impl fmt::Display for Expected as ExpectedDisplay {
 
 impl Expected {
     /// The words that say what was expected, as they are printed.
-    pub fn words(self) -> &'static str {
+    pub fn words(self) -> &'static str
+        ensures { λ r. ⌜ now r ≡ wordsFor self ⌝ }
+    {
         match self {
             Expected::Text => "printed characters of ASCII",
             Expected::Command => "a command",

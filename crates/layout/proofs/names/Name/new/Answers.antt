@@ -9,8 +9,8 @@ pub loop-i-again : need.loop-i-again
 loop-i-again c = (
   length-set (c .loop-i .bytes) (c .loop-i .i) _ ∙ c .loop-i .inv .0,
   take-more-set (c .loop-i .bytes) (c .loop-i .i) _ (omega arith)
-  ∙ ap (λ xs. xs ++ getD (c .args .word .now) (c .loop-i .i) 0 ∷ []) (c .loop-i .inv .1)
-  ∙ sym (take-more (c .args .word .now) (c .loop-i .i) 0 (omega arith)),
+      ∙ ap (λ xs. xs ++ getD (c .args .word .now) (c .loop-i .i) 0 ∷ []) (c .loop-i .inv .1)
+      ∙ sym (take-more (c .args .word .now) (c .loop-i .i) 0 (omega arith)),
 )
 
 pub returns : need.returns

@@ -8,7 +8,7 @@ use Rattle.layout.proofs.roster.Roster.add.Needs as need
 pub returns-then-len-ge32 : need.returns-then-len-ge32
 returns-then-len-ge32 c = (
   full (c .args .wiring .now .nodes) _ _ _ (c .args .port) (c .in-Some .ensures tt .1) (c .if-has-name .ensures tt) (c .if-has-address .ensures tt) (c .in-Continue-want-access .ensures tt ∙ ap wantAccess (c .port .ensures))
-  (omega (arith, counted (c .args .self .now .list))),
+      (omega (arith, counted (c .args .self .now .list))),
   refl,
 )
 

@@ -8,8 +8,7 @@ use Rattle.layout.proofs.roster.Roster.place_of.Needs as need
 
 pub returns-then-i-len : need.returns-then-i-len
 returns-then-i-len c =
-    let e = found (c .args .self .now .list) (nameIndex (c .args .name .now)) _ _ _ (c .find-name-i .ensures .value) (c .as-slice .ensures .value) (c .len .ensures) in
-    (
+    let e = found (c .args .self .now .list) (nameIndex (c .args .name .now)) _ _ _ (c .find-name-i .ensures .value) (c .as-slice .ensures .value) (c .len .ensures) in (
       sym e ∙ lt-ltb _ _ (c .if-i-len .taken),
       c .find-name-i .ensures .value ∙ ap (λ ss. nameIndex (c .args .name .now) (map placed ss)) (c .as-slice .ensures .value),
       omega arith,
