@@ -38,7 +38,8 @@ impl Layout {
     pub fn wiring(&self) -> Wiring
         ensures { λ r. ⌜ r ≡ now (self .entry) .wiring ⌝ }
     {
-        self.wiring
+        let wiring = self.wiring;
+        wiring
     }
 
     /// The stations.

@@ -39,7 +39,8 @@ impl Roster {
     pub fn stations(&self) -> &[Station]
         ensures { λ r. ⌜ now r ≡ vec-items (now (self .entry) .list) ⌝ }
     {
-        self.list.as_slice()
+        let stations = self.list.as_slice();
+        stations
     }
 
     /// Adds a station at an access port.
@@ -86,7 +87,7 @@ impl Roster {
     }
 
     /// The place of the station that has a name.
-    pub fn place_of(&self, name: &[u8]) -> Option<usize>
+    fn place_of(&self, name: &[u8]) -> Option<usize>
         ensures { λ r. ⌜ BySome r (hasName (now (name .entry)) (placedIn (now (self .entry) .list)) ≡ false) (λ i. (hasName (now (name .entry)) (placedIn (now (self .entry) .list)) ≡ true) × (i ≡ nameIndex (now (name .entry)) (placedIn (now (self .entry) .list))) × (i < vec-len (now (self .entry) .list))) ⌝ }
     {
         let i = find_name(self.list.as_slice(), name);
@@ -94,7 +95,7 @@ impl Roster {
     }
 
     /// Says whether a station has a name.
-    pub fn has_name(&self, name: &[u8]) -> bool
+    fn has_name(&self, name: &[u8]) -> bool
         ensures { λ r. ⌜ r ≡ hasName (now (name .entry)) (placedIn (now (self .entry) .list)) ⌝ }
     {
         match self.place_of(name) {
@@ -104,7 +105,7 @@ impl Roster {
     }
 
     /// Says whether a station has an address.
-    pub fn has_address(&self, address: &[u8]) -> bool
+    fn has_address(&self, address: &[u8]) -> bool
         ensures { λ r. ⌜ r ≡ hasAddress (now (address .entry)) (placedIn (now (self .entry) .list)) ⌝ }
     {
         find_address(self.list.as_slice(), address) < self.list.len()
@@ -114,7 +115,8 @@ impl Roster {
     pub fn want(&self, name: &[u8]) -> Result<(), Expected>
         ensures { λ r. ⌜ r ≡ wantStation (now (name .entry)) (placedIn (now (self .entry) .list)) ⌝ }
     {
-        if self.has_name(name) {
+        let there = self.has_name(name);
+        if there {
             Ok(())
         } else {
             Err(Expected::StationThere)

@@ -99,7 +99,8 @@ impl<'a> Session<'a> {
     pub fn line(&self) -> u64
         ensures { λ r. ⌜ r ≡ now (self .entry) .line ⌝ }
     {
-        self.line
+        let number = self.line;
+        number
     }
 
     /// Reads the next line: its command, or the fault after which nothing is read.

@@ -32,7 +32,7 @@ fn lives_at(station: Station, address: &[u8]) -> bool
 }
 
 /// Finds a station by its name: its place, or how many there are.
-pub fn find_name(stations: &[Station], name: &[u8]) -> usize
+pub(crate) fn find_name(stations: &[Station], name: &[u8]) -> usize
     ensures value { λ r. ⌜ r ≡ nameIndex (now (name .entry)) (map placed (now (stations .entry))) ⌝ }
     ensures within { λ r. ⌜ r ≤ length (now (stations .entry)) ⌝ }
 {
@@ -44,7 +44,7 @@ pub fn find_name(stations: &[Station], name: &[u8]) -> usize
 }
 
 /// Finds a station by its address: its place, or how many there are.
-pub fn find_address(stations: &[Station], address: &[u8]) -> usize
+pub(crate) fn find_address(stations: &[Station], address: &[u8]) -> usize
     ensures value { λ r. ⌜ r ≡ addressIndex (now (address .entry)) (map placed (now (stations .entry))) ⌝ }
     ensures within { λ r. ⌜ r ≤ length (now (stations .entry)) ⌝ }
 {

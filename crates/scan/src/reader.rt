@@ -44,6 +44,7 @@ impl<'a> Words<'a> {
     pub fn rest(&self) -> &'a [u8]
         ensures { λ r. ⌜ now r ≡ now (now (self .entry) .rest) ⌝ }
     {
-        self.rest
+        let left = self.rest;
+        left
     }
 }

@@ -64,11 +64,11 @@ impl Wiring {
         ensures { λ r. ⌜ r ≡ powerAt (now (self .entry) .nodes) node ⌝ }
     {
         let i = node as usize;
-        if i < 6 {
-            self.nodes[i].power
-        } else {
-            Power::Absent
+        if i >= 6 {
+            return Power::Absent;
         }
+        let power = self.nodes[i].power;
+        power
     }
 
     /// The bridge number of a box.
@@ -91,11 +91,12 @@ impl Wiring {
         if k >= 16 {
             return Port::Absent;
         }
-        self.nodes[i].ports[k]
+        let port = self.nodes[i].ports[k];
+        port
     }
 
     /// Uses a port for something else.
-    pub fn set_port(&mut self, at: PortRef, port: Port)
+    pub(crate) fn set_port(&mut self, at: PortRef, port: Port)
         ensures { λ _. ⌜ now (self .exit) .nodes ≡ withPort (now (self .entry) .nodes) at port ⌝ }
     {
         let i = at.node as usize;
@@ -110,7 +111,7 @@ impl Wiring {
     }
 
     /// Switches a box on or off.
-    pub fn set_power(&mut self, node: u8, power: Power)
+    pub(crate) fn set_power(&mut self, node: u8, power: Power)
         ensures { λ _. ⌜ now (self .exit) .nodes ≡ withPower (now (self .entry) .nodes) node power ⌝ }
     {
         let i = node as usize;
@@ -120,7 +121,7 @@ impl Wiring {
     }
 
     /// Puts a box there, switched on, with its ports free.
-    pub fn set_box(&mut self, node: u8, ports: u8, number: u8)
+    pub(crate) fn set_box(&mut self, node: u8, ports: u8, number: u8)
         ensures { λ _. ⌜ now (self .exit) .nodes ≡ withBox (now (self .entry) .nodes) node ports number ⌝ }
     {
         let i = node as usize;

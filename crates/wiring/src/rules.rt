@@ -26,7 +26,7 @@ pub fn want_there(port: Port) -> Result<(), Expected>
 }
 
 /// Refuses a port that is in use.
-pub fn want_free(port: Port) -> Result<(), Expected>
+fn want_free(port: Port) -> Result<(), Expected>
     ensures { λ r. ⌜ r ≡ wantFree port ⌝ }
 {
     match port {
