@@ -143,7 +143,7 @@ walks-on r trees up x t k e o h y w = subst (λ z. Walks r trees z) (sym (w .is)
       still = λ p. absurd (omega arith);
     }
 
-tree-stays : (t u : Tree) (n : ℕ) (ts : List Tree) → treeOf (t .number) ts ≡ NoTree → treeOf n ts ≡ This u → treeOf n (t ∷ ts) ≡ This u
+pub tree-stays : (t u : Tree) (n : ℕ) (ts : List Tree) → treeOf (t .number) ts ≡ NoTree → treeOf n ts ≡ This u → treeOf n (t ∷ ts) ≡ This u
 unfolding treeOf
 tree-stays t u n ts e h = elim (ℕ-discrete (t .number) n) [ yes q ↦ absurd (let z = subst (λ m. treeOf m ts ≡ NoTree) q e in grind arith) | no k ↦ rw (ne-eqb (t .number) n k) h ]
 

@@ -8,3 +8,10 @@ pub mod Changes
 pub mod Keeps
 pub mod NoRound
 pub mod Vlan
+pub mod Counts
+pub mod Twice
+pub mod TopWays
+pub mod Learnt
+pub mod Quiet
+pub mod Arrives
+pub mod Guaranteed

@@ -6,3 +6,4 @@ pub mod Guarantee
 pub mod Trace
 pub mod Cases
 pub mod Witness
+pub mod Parts
