@@ -2,6 +2,7 @@
 ghost use mathlib.Core.Path.{_≡_};
 ghost use Prim.Native.Nat.{_<_, _≤_};
 ghost use Rattle.std.specs.Options.{Cases as BySome};
+use crate::MOST_BRIDGES;
 
 // The number of a bridge, which is below the most that a net may have: so that an array of all bridges may be indexed by it.
 #[derive(Clone, Copy, PartialEq, Eq, Debug)]
@@ -15,7 +16,7 @@ impl BridgeId {
     pub fn new(value: u8) -> Option<BridgeId>
         ensures { λ r. ⌜ BySome r (128 ≤ value) (λ b. (value < 128) × (b .value ≡ value)) ⌝ }
     {
-        if (value as usize) < crate::MOST_BRIDGES {
+        if (value as usize) < MOST_BRIDGES {
             Some(BridgeId { value })
         } else {
             None

@@ -88,7 +88,7 @@ impl BridgeSet {
     pub fn is_empty(self) -> bool
         ensures { λ r. ⌜ When r ((k : ℕ) → k < 128 → has (self .bits) k ≡ false) ((k : ℕ) × (k < 128) × (has (self .bits) k ≡ true)) ⌝ }
     {
-        mask::lowest(self.bits) == 128
+        self.first().is_none()
     }
 
     // The lowest bridge in it: None where nothing is in it.

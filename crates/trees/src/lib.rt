@@ -13,6 +13,8 @@ pub use shape::TreeFaultDebug;
 pub use shape::TreeFaultPartialEq;
 pub use spanning_tree::Tree;
 pub use tree_id::TreeId;
+pub use tree_id::TreeIdDebug;
+pub use tree_id::TreeIdPartialEq;
 pub use walks::walks_are_simple;
 
 // Trees' numbers go by the sequence number, then by the announcer, then by the nonce.

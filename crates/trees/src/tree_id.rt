@@ -5,9 +5,11 @@ ghost use mathlib.Core.Path.{_≡_};
 ghost use Prim.Native.Nat.{_^_, _<_, _≤_};
 ghost use Rattle.std.specs.Options.{Cases as BySome};
 use sets::BridgeId;
+use sets::BridgeIdDebug;
+use sets::BridgeIdPartialEq;
 
 // The number of a tree, by which it is told from every other and is newer or older: carried by each frame.
-#[derive(Clone, Copy)]
+#[derive(Clone, Copy, PartialEq, Eq, Debug)]
 pub struct TreeId {
     seq: u32,
     announcer: BridgeId,

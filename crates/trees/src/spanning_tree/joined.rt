@@ -12,10 +12,15 @@ use crate::TreeId;
 use crate::shape;
 use sets::BridgeId;
 use sets::BridgeSet;
+use sets::MOST_BRIDGES;
 
 impl Tree {
     // The tree with these parents and depths, if they are one.
-    pub fn new(id: TreeId, parent: [u8; 128], depth: [u8; 128]) -> Result<Tree, TreeFault>
+    pub fn new(
+        id: TreeId,
+        parent: [u8; MOST_BRIDGES],
+        depth: [u8; MOST_BRIDGES],
+    ) -> Result<Tree, TreeFault>
         ensures { λ r. ⌜ Cases r (λ t. (t .id ≡ id) × (t .parent ≡ parent) × (t .depth ≡ depth)) (λ e. Refused (idNumber id) parent depth e) ⌝ }
     {
         if !shape::is_named(&parent) {
@@ -64,7 +69,7 @@ impl Tree {
         ensures { λ r. ⌜ ((k : ℕ) → k < 128 → has (r .bits) k ≡ joined (meaning (now (self .entry))) (b .value) k) ⌝ }
     {
         let mut found = BridgeSet::empty();
-        for k in 0..128u8 {
+        for k in 0..MOST_BRIDGES as u8 {
             let Some(c) = BridgeId::new(k) else {
                 break;
             };
