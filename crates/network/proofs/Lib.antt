@@ -1,0 +1,5 @@
+mod Tests
+mod Tables
+mod Worlds
+mod Onward
+mod Handing
