@@ -3,3 +3,5 @@ mod Tables
 mod Worlds
 mod Onward
 mod Handing
+mod Standing
+mod Learning
