@@ -79,9 +79,6 @@ none-found q es h = go (find q es) h
     go (Some e) h = absurd (grind arith)
 
 module _ (n : Network) (b : ℕ) (s : State) (c d : Contents) where
-  new : State
-  new = with-tables s c d
-
   goneFrom : Slot → List ℕ
   goneFrom slot = gone (placeIn (with-tables s c d) (numberIn (slot .tree))) (slot .table .entries)
 

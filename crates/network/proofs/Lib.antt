@@ -5,3 +5,5 @@ mod Onward
 mod Handing
 mod Standing
 mod Learning
+mod Changes
+mod Plugging
