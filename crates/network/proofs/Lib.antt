@@ -7,3 +7,4 @@ mod Standing
 mod Learning
 mod Changes
 mod Plugging
+mod Frames
