@@ -131,3 +131,10 @@ none-get n x b out h (suc q) = rw (h (n .plug q .port), none-get n x b out h q) 
   where
     dropped : (a b c : Bool) (g : Got) → cond (a && (b && (c && false))) (g ∷ []) [] ≡ []
     dropped a b c g = grind (arith, tells)
+
+-- who gets a frame doesn't turn on what is under way
+pub getters-same : (n : Network) (flying : List Copy) (next : ℕ) (out : ℕ → Bool) (came : Came) (k : Place) (x : Copy) (m : ℕ) →
+    getters (record { bridge = n .bridge; plug = n .plug; trees = n .trees; flying = flying; got = n .got; next = next }) out came k x m ≡ getters n out came k x m
+unfolding getters
+getters-same n flying next out came k x zero = refl
+getters-same n flying next out came k x (suc q) = rw (getters-same n flying next out came k x q)

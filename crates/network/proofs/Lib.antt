@@ -8,3 +8,6 @@ mod Learning
 mod Changes
 mod Plugging
 mod Frames
+mod Steady
+mod Arriving
+mod Runs
