@@ -55,7 +55,7 @@ tree-of : (u : ℕ) (tree : Found) → isTree u tree ≡ true → (t : Tree) × 
 tree-of u NoTree e = absurd (grind arith)
 tree-of u (This t) e = let q : t .number ≡ u = grind (arith, tells) in (t, refl, q)
 
-has-tree : (tree : Found) → none tree ≡ false → (t : Tree) × (tree ≡ This t)
+pub has-tree : (tree : Found) → none tree ≡ false → (t : Tree) × (tree ≡ This t)
 has-tree NoTree e = absurd (grind arith)
 has-tree (This t) e = (t, refl)
 
@@ -178,3 +178,82 @@ module _ (n : Network) (w : World) (j tick : ℕ) (x : Copy) (i : Simulates n w)
       older : isTree (x .frame .tree) (n .bridge (x .at) .newest .tree) ≡ false → isTree (x .frame .tree) (n .bridge (x .at) .older .tree) ≡ true → (t : Tree) × (n .bridge (x .at) .older .tree ≡ This t) × (t .number ≡ x .frame .tree) → Comes-to Older
       older d h a = taken Older (a .0) (subst (λ u. treeOf u (w .trees) ≡ This (a .0)) (a .2) (announced-older n w (x .at) (a .0) (fl .inside) i (a .1))) (held-so ∙ or-right _ _ h)
           (along-older n₀ w₀ x (a .0) (cameFrom (x .trail)) tick (fl .inside) i₀ (k .kept (x .at) .numbered) (a .2) (back-so (x .trail)) from-so d (a .1))
+
+-- a station's frame is a new copy at its bridge
+abbrev firstOf : World → ℕ → ℕ → ℕ → ℕ → Copy
+firstOf w q to b t = record { frame = record { number = w .next; from = q; to = to; colour = vlanOf q; tree = t }; at = b; trail = [] }
+
+abbrev with-new : Copy → World → World
+with-new x w = record { home = w .home; up = w .up; trees = w .trees; holds = w .holds; learned = w .learned; copies = x ∷ w .copies; got = w .got; next = suc (w .next) }
+
+send-made : (w : World) (q to b t : ℕ) (ns : List ℕ) → w .home q ≡ b → b < 128 → q < 2 ^ 60 → to < 2 ^ 60 → w .holds b ≡ t ∷ ns → happen false rules (Send q to) w ≡ with-new (firstOf w q to b t) w
+unfolding sendBy
+send-made w q to b t ns home lb lq lto holds = rw (home, lt-ltb b 128 lb, lt-ltb q (2 ^ 60) lq, lt-ltb to (2 ^ 60) lto, holds)
+    (ap (λ c. with-new (firstOf w q to c t) w) home)
+
+module _ (n : Network) (w : World) (q to tick : ℕ) (i : Simulates n w) (k : Steady n) (inside : n .plug q .bridge < 128) (here : isHere n (n .plug q .bridge) q ≡ true) (lq : q < 2 ^ 60) (lto : to < 2 ^ 60)
+    (t : Tree) (its : n .bridge (n .plug q .bridge) .newest .tree ≡ This t) where
+  abbrev b : ℕ
+  b = n .plug q .bridge
+
+  abbrev x : Copy
+  x = firstCopy n b q to
+
+  abbrev n₁ : Network
+  n₁ = with-flying (n .flying) (suc (n .next)) n
+
+  abbrev w₁ : World
+  w₁ = record { home = w .home; up = w .up; trees = w .trees; holds = w .holds; learned = w .learned; copies = w .copies; got = w .got; next = suc (w .next) }
+
+  i₁ : Simulates n₁ w₁
+  i₁ = record {
+    holds-so = i .holds-so;
+    held-so = i .held-so;
+    learned-so = i .learned-so;
+    links-so = i .links-so;
+    home-so = i .home-so;
+    trees-so = i .trees-so;
+    flying-so = i .flying-so;
+    got-so = i .got-so;
+    next-so = ap suc (i .next-so);
+  }
+
+  home-so : w .home q ≡ b
+  home-so = sym (i .home-so q) ∙ rw (lt-ltb b 128 inside, here)
+
+  along-it : t .number ≡ x .frame .tree
+  along-it = sym (ap numberOfNewest its)
+
+  its-first : (tree : Found) → tree ≡ This t → (older : Found) → numbers (treeIn tree ++ treeIn older) ≡ t .number ∷ numbers (treeIn older)
+  unfolding numbers
+  its-first tree h older = subst (λ f. numbers (treeIn f ++ treeIn older) ≡ t .number ∷ numbers (treeIn older)) (sym h) refl
+
+  holds-so : w .holds b ≡ t .number ∷ numbers (treeIn (n .bridge b .older .tree))
+  holds-so = sym (i .holds-so b inside) ∙ its-first (n .bridge b .newest .tree) its (n .bridge b .older .tree)
+
+  number-so : w .next ≡ n .next
+  number-so = sym (i .next-so)
+
+  sent : happen false rules (Send q to) w ≡ with-new x w
+  sent = send-made w q to b (t .number) (numbers (treeIn (n .bridge b .older .tree))) home-so inside lq lto holds-so ∙
+      (λ j. with-new (record { frame = record { number = number-so j; from = q; to = to; colour = vlanOf q; tree = along-it j }; at = b; trail = [] }) w)
+
+  known : treeOf (x .frame .tree) (w .trees) ≡ This t
+  known = subst (λ u. treeOf u (w .trees) ≡ This t) along-it (announced-newest n w b t inside i its)
+
+  held : isIn (x .frame .tree) (w .holds b) ≡ true
+  unfolding isIn
+  held = rw holds-so (or-left _ _ (eq-eqb (t .number) (x .frame .tree) along-it))
+
+  arrived : happen false rules (Arrive 0) (with-new x w) ≡ forward false rules x t w₁
+  unfolding arrives without
+  arrived = receive-held x t w₁ known held
+
+  pub sending : (fs : List Event) × Simulates (handled n Newest (ByPort (n .plug q .port)) x tick (n .flying) (suc (n .next))) (follow fs w)
+  unfolding follow
+  sending = (s .0 ++ (Arrive 0 ∷ Send q to ∷ []), subst (λ u. Simulates (handled n Newest (ByPort (n .plug q .port)) x tick (n .flying) (suc (n .next))) u)
+      (sym (follow-append (s .0) (Arrive 0 ∷ Send q to ∷ []) w ∙ ap (follow (s .0)) (ap (happen false rules (Arrive 0)) sent ∙ arrived)))
+      (subst (λ m. Simulates m (follow (s .0) (forward false rules x t w₁))) (handled-same n Newest (ByPort (n .plug q .port)) x tick (n .flying) (suc (n .next))) (s .1)))
+    where
+      s : (fs : List Event) × Simulates (handled n₁ Newest (ByPort (n .plug q .port)) x tick (n₁ .flying) (n₁ .next)) (follow fs (forward false rules x t w₁))
+      s = along-newest n₁ w₁ x t (ByPort (n .plug q .port)) tick inside i₁ (k .kept b .numbered) along-it (λ c. refl) (rw (eq-eqb b b refl, eq-eqb (n .plug q .port) (n .plug q .port) refl)) its
