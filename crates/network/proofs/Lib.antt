@@ -11,3 +11,4 @@ mod Frames
 mod Steady
 mod Arriving
 mod Runs
+mod Safe

@@ -7,6 +7,7 @@ use Prim.Native.Nat.{ℕ, zero, suc, _<_, _≤_, _^_}
 use native.Mathlib.Omega.{arith}
 use lib.Dec.{eqb, ltb}
 use lib.ListN.{length}
+use Rattle.std.proofs.shelf.Tests.{lt-ltb, ltb-false}
 use Rattle.trees.specs.Tree.{Tree, looks}
 use Rattle.bridges.specs.Net.{Copy, Got, World, Found, NoTree, This, treeOf, without, at}
 use Rattle.bridges.specs.Fabric.{Event, Announce, Adopt, Crash, Lose, happen, begin, run}
@@ -15,12 +16,15 @@ use Rattle.bridges.proofs.Changes.{cond-by}
 use Rattle.fdb.specs.Entries.{find}
 use Rattle.fdb.specs.Contents.{Contents, empty, aged}
 use Rattle.forwarding.specs.declared.port.Port.{Port}
+use Rattle.forwarding.specs.Ports.{portsOf, noneBelow}
 use Rattle.forwarding.specs.State.{Slot, State, isTree, adopted, lookIn, agedState, started}
 use Rattle.forwarding.specs.Replies.{none}
 use Rattle.network.specs.Network.{Network, Plug, rules, vlanOf, begins, Steps, announces, adopts, links, ages, crashes, plugs, sends, comes, loses, Reached, first, then}
-use Rattle.network.specs.Simulation.{Simulates, Runs-as-net, numbers, homeOf, whereIs, placeIn}
+use Rattle.network.specs.Simulation.{Simulates, Runs-as-net, Goes-on-as-net, numbers, homeOf, whereIs, placeIn}
 use Rattle.network.proofs.Tables.{look, Fades, remembered-fades}
-use Rattle.network.proofs.Worlds.{follow, follow-append, run-follow}
+use Rattle.network.proofs.Onward.{none-beyond}
+use Rattle.network.proofs.Tests.{by-test}
+use Rattle.network.proofs.Worlds.{follow, run-follow, believed, believesUpTo, believes-up-to}
 use Rattle.network.proofs.Standing.{with-bridge, bridge-same}
 use Rattle.network.proofs.Learning.{with-tables, forgetting}
 use Rattle.network.proofs.Changes.{announcing, crashing, adopting, linking}
@@ -64,3 +68,34 @@ follows {n} w k i (loses j) = (Lose j ∷ [], record {
   got-so = i .got-so;
   next-so = i .next-so;
 })
+
+-- at first each bridge comes to believe what its ports say
+abbrev believes-first : (ℕ → List Port) → ℕ → ℕ → Bool
+believes-first ports b c = not (noneBelow (portsOf (ports b)) c 16)
+
+begins-so : (ports : ℕ → List Port) → Simulates (begins ports) (believed (λ b c. cond (ltb b 128 && ltb c 128) (believes-first ports b c) false) (begin false rules))
+unfolding numbers find
+begins-so ports = record {
+  holds-so = λ b lt. refl;
+  held-so = λ b t lt m. absurd (List·Memᴰ·not-nil m);
+  learned-so = λ b t q lt. refl;
+  links-so = λ b c lt. rw (lt-ltb b 128 lt) (by-test (ltb c 128) (λ v. believes-first ports b c ≡ cond v (believes-first ports b c) false) (λ _. refl)
+      (λ e. ap not (none-beyond (ports b) c 16 (ltb-false c 128 e))));
+  home-so = λ q. refl;
+  trees-so = refl;
+  flying-so = refl;
+  got-so = refl;
+  next-so = refl;
+}
+
+stands-for : (ports : ℕ → List Port) {n : Network} → Reached ports n → (es : List Event) × Simulates n (run false rules es)
+unfolding run
+stands-for ports first = (believesUpTo (believes-first ports) 128 128 ++ [], subst (λ u. Simulates (begins ports) u) (sym (run-follow (believesUpTo (believes-first ports) 128 128) [] ∙ believes-up-to (believes-first ports) 128 128 (begin false rules)))
+    (begins-so ports))
+stands-for ports (then {n} {m} r s) = let e = stands-for ports r in let f = follows (run false rules (e .0)) (steady ports r) (e .1) s in (f .0 ++ e .0, subst (λ u. Simulates m u) (sym (run-follow (f .0) (e .0))) (f .1))
+
+pub runs-as-net : Runs-as-net
+runs-as-net ports sixteen n r = let e = stands-for ports r in (e .0, e .1, guaranteed false rules (e .0))
+
+pub goes-on-as-net : Goes-on-as-net
+goes-on-as-net ports sixteen n m r s es i = let f = follows (run false rules es) (steady ports r) i s in (f .0, subst (λ u. Simulates m u) (sym (run-follow (f .0) es)) (f .1))

@@ -4,6 +4,7 @@ use mathlib.Core.List.{List, [], _∷_, _++_}
 use mathlib.Core.Bool.{Bool, true, false, cond, _&&_, _||_, not}
 use Prim.Native.Nat.{ℕ, zero, suc, _<_}
 use native.Mathlib.Omega.{arith}
+use native.Mathlib.Decide.{ℕ-discrete}
 use lib.Dec.{eqb, ltb}
 use Rattle.std.proofs.shelf.Ways.{tells}
 use Rattle.trees.specs.Tree.{Tree, isIn}
@@ -84,3 +85,21 @@ unfolding follow believesAll
 believes-so b f zero w = believed-path (w .up) (beliefs b f 0 (w .up)) w (λ p c. grind (arith, tells))
 believes-so b f (suc k) w = ap (happen false rules (Believe b k (f k))) (believes-so b f k w) ∙
     believed-path _ (beliefs b f (suc k) (w .up)) w (λ p c. believe-more b k p c f (w .up p c))
+
+-- and so do all of the first k bridges
+unfoldable pub believesUpTo : (ℕ → ℕ → Bool) → ℕ → ℕ → List Event
+believesUpTo f m zero = []
+believesUpTo f m (suc b) = believesAll b (f b) m ++ believesUpTo f m b
+
+believe-bridge : (f : ℕ → ℕ → Bool) (m k p c : ℕ) (v : Bool) →
+    cond (eqb p k && ltb c m) (f k c) (cond (ltb p k && ltb c m) (f p c) v) ≡ cond (ltb p (suc k) && ltb c m) (f p c) v
+believe-bridge f m k p c v = elim (ℕ-discrete p k) [
+  | yes h ↦ subst (λ p. cond (eqb p k && ltb c m) (f k c) (cond (ltb p k && ltb c m) (f p c) v) ≡ cond (ltb p (suc k) && ltb c m) (f p c) v) (sym h) (grind (arith, tells))
+  | no h ↦ grind (arith, tells)
+]
+
+pub believes-up-to : (f : ℕ → ℕ → Bool) (m k : ℕ) (w : World) → follow (believesUpTo f m k) w ≡ believed (λ p c. cond (ltb p k && ltb c m) (f p c) (w .up p c)) w
+unfolding follow believesUpTo
+believes-up-to f m zero w = believed-path (w .up) (λ p c. cond (ltb p 0 && ltb c m) (f p c) (w .up p c)) w (λ p c. grind (arith, tells))
+believes-up-to f m (suc k) w = follow-append (believesAll k (f k) m) (believesUpTo f m k) w ∙ (ap (follow (believesAll k (f k) m)) (believes-up-to f m k w) ∙
+    (believes-so k (f k) m _ ∙ believed-path _ (λ p c. cond (ltb p (suc k) && ltb c m) (f p c) (w .up p c)) w (λ p c. believe-bridge f m k p c (w .up p c))))
