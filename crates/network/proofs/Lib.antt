@@ -12,3 +12,4 @@ mod Steady
 mod Arriving
 mod Runs
 mod Safe
+mod AsContracts

@@ -95,7 +95,7 @@ stands-for ports first = (believesUpTo (believes-first ports) 128 128 ++ [], sub
 stands-for ports (then {n} {m} r s) = let e = stands-for ports r in let f = follows (run false rules (e .0)) (steady ports r) (e .1) s in (f .0 ++ e .0, subst (λ u. Simulates m u) (sym (run-follow (f .0) (e .0))) (f .1))
 
 pub runs-as-net : Runs-as-net
-runs-as-net ports sixteen n r = let e = stands-for ports r in (e .0, e .1, guaranteed false rules (e .0))
+runs-as-net ports n r = let e = stands-for ports r in (e .0, e .1, guaranteed false rules (e .0))
 
 pub goes-on-as-net : Goes-on-as-net
-goes-on-as-net ports sixteen n m r s es i = let f = follows (run false rules es) (steady ports r) i s in (f .0, subst (λ u. Simulates m u) (sym (run-follow (f .0) es)) (f .1))
+goes-on-as-net ports n m r s es i = let f = follows (run false rules es) (steady ports r) i s in (f .0, subst (λ u. Simulates m u) (sym (run-follow (f .0) es)) (f .1))

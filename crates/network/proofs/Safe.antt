@@ -24,4 +24,4 @@ safe-if n es i a = record {
 }
 
 pub always-safe : Always-safe
-always-safe ports sixteen n r = let e = runs-as-net ports sixteen n r in safe-if n (e .0) (e .1) (e .2)
+always-safe ports n r = let e = runs-as-net ports n r in safe-if n (e .0) (e .1) (e .2)
