@@ -11,7 +11,7 @@ use Rattle.std.proofs.shelf.Tests.{eq-eqb, lt-ltb, or-left, or-right, or-from}
 use Rattle.trees.specs.Tree.{Tree, isIn}
 use Rattle.bridges.specs.Net.{Frame, Copy, Where, Unknown, Here, Behind, Got, World, Found, NoTree, This, treeOf, cameBy, notBack, without, with-copies, sendBy, at}
 use Rattle.bridges.specs.Fabric.{Event, Send, Arrive, Lose, happen, forward, receive, arrives}
-use Rattle.bridges.proofs.Changes.{cond-by}
+use Rattle.std.proofs.shelf.Tests.{cond-both}
 use Rattle.ports.specs.Ports.{portsOf}
 use Rattle.ports.specs.Places.{Place, Nowhere, AtPort, Toward, Came, ByPort, ByBridge, sender, notToBridge}
 use Rattle.forwarding.specs.State.{Slot, State, isTree}
@@ -161,9 +161,9 @@ module _ (n : Network) (w : World) (j tick : ℕ) (x : Copy) (i : Simulates n w)
       (subst (λ m. Simulates m w₀) (sym (refused n f (fl .last) x tick (without j (n .flying)) (n .next))) i₀)))
 
   pub coming : Comes-to (trackOf (n .bridge (x .at)) (x .frame .tree))
-  coming = cond-by (none (n .bridge (x .at) .newest .tree)) Comes-to _ _ (λ h. dropped fault.NoTree (held-so ∙ nothing (n .bridge (x .at) .newest .tree) (n .bridge (x .at) .older .tree) h (k .kept (x .at) .older-last h)))
-      (λ _. cond-by (isTree (x .frame .tree) (n .bridge (x .at) .newest .tree)) Comes-to _ _ (λ h. newest h (tree-of (x .frame .tree) (n .bridge (x .at) .newest .tree) h))
-      (λ d. cond-by (isTree (x .frame .tree) (n .bridge (x .at) .older .tree)) Comes-to _ _ (λ h. older d h (tree-of (x .frame .tree) (n .bridge (x .at) .older .tree) h))
+  coming = cond-both (none (n .bridge (x .at) .newest .tree)) _ _ Comes-to (λ h. dropped fault.NoTree (held-so ∙ nothing (n .bridge (x .at) .newest .tree) (n .bridge (x .at) .older .tree) h (k .kept (x .at) .older-last h)))
+      (λ _. cond-both (isTree (x .frame .tree) (n .bridge (x .at) .newest .tree)) _ _ Comes-to (λ h. newest h (tree-of (x .frame .tree) (n .bridge (x .at) .newest .tree) h))
+      (λ d. cond-both (isTree (x .frame .tree) (n .bridge (x .at) .older .tree)) _ _ Comes-to (λ h. older d h (tree-of (x .frame .tree) (n .bridge (x .at) .older .tree) h))
       (λ h. dropped fault.UnknownTree (held-so ∙ or-from _ _ d h))))
     where
       nothing : (a b : Found) → none a ≡ true → none b ≡ true → (isTree (x .frame .tree) a || isTree (x .frame .tree) b) ≡ false

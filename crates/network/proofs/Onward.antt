@@ -12,7 +12,7 @@ use Rattle.std.proofs.shelf.Ways.{tells}
 use Rattle.std.proofs.shelf.Tests.{eq-eqb, ne-eqb, lt-ltb, le-ltb}
 use Rattle.trees.specs.Tree.{Tree, joined}
 use Rattle.bridges.specs.Net.{Copy, Where, Unknown, Here, Behind, notBack, copyTo, floods, toward}
-use Rattle.bridges.proofs.Changes.{cond-by}
+use Rattle.std.proofs.shelf.Tests.{cond-both}
 use Rattle.ports.specs.declared.port.Port.{Port}
 use Rattle.ports.specs.declared.port.Port.the-variants.{Unused, Access, Trunk}
 use Rattle.ports.specs.Ports.{Kind, Idle, ToStations, ToBridge, kindOf, portsOf, leadsTo, noneBelow, onwardBy}
@@ -115,7 +115,7 @@ module _ (port : ℕ → Kind) (t : Tree) (up : ℕ → ℕ → Bool) (x : Copy)
   pub sent-so : (k : Place) (pl : Plug) → ((p : ℕ) → out p ≡ outBy port (x .at) t vlan came k p) → sentOn out port x 128 ≡ toward t up x (whereIs (x .at) pl k) 128
   sent-so Nowhere pl h = sent-floods out port t up x (λ c. passes-by Nowhere h c ∙ may-so c) 128
   sent-so (AtPort i) pl h = sent-none out port x (passes-by (AtPort i) h) 128 ∙
-      cond-by (eqb (pl .bridge) (x .at) && eqb (pl .port) i) (λ k. [] ≡ toward t up x k 128) Here (Behind (x .at)) (λ _. refl) (λ _. rw (eq-eqb (x .at) (x .at) refl))
+      cond-both (eqb (pl .bridge) (x .at) && eqb (pl .port) i) Here (Behind (x .at)) (λ k. [] ≡ toward t up x k 128) (λ _. refl) (λ _. rw (eq-eqb (x .at) (x .at) refl))
   sent-so (Toward d) pl h = sent-one out port x d (joined t (x .at) d && (up (x .at) d && notBack (x .trail) d)) (λ c. passes-by (Toward d) h c ∙ only c) 128 ∙
       ap (λ v. cond v (copyTo x d ∷ []) []) inside
     where
@@ -132,7 +132,7 @@ module _ (port : ℕ → Kind) (t : Tree) (up : ℕ → ℕ → Bool) (x : Copy)
 pub sent-mem : (out : ℕ → Bool) (port : ℕ → Kind) (x y : Copy) (n : ℕ) → List·Memᴰ y (sentOn out port x n) → (c : ℕ) × (c < n) × (y ≡ copyTo x c)
 unfolding sentOn
 sent-mem out port x y zero m = absurd (List·Memᴰ·not-nil m)
-sent-mem out port x y (suc c) m = cond-by (passes out port c 16) (λ ys. List·Memᴰ y ys → (d : ℕ) × (d < suc c) × (y ≡ copyTo x d)) (copyTo x c ∷ sentOn out port x c) (sentOn out port x c)
+sent-mem out port x y (suc c) m = cond-both (passes out port c 16) (copyTo x c ∷ sentOn out port x c) (sentOn out port x c) (λ ys. List·Memᴰ y ys → (d : ℕ) × (d < suc c) × (y ≡ copyTo x d))
     (λ _ m. elim (List·Memᴰ·cases-cons m) [ inl e ↦ (c, last, e) | inr m′ ↦ wider (sent-mem out port x y c m′) ]) (λ _ m. wider (sent-mem out port x y c m)) m
   where
     last : c < suc c

@@ -12,7 +12,7 @@ use Rattle.trees.specs.Tree.{Tree, looks}
 use Rattle.bridges.specs.Net.{Copy, Got, World, Found, NoTree, This, treeOf, without, at}
 use Rattle.bridges.specs.Fabric.{Event, Announce, Adopt, Crash, Lose, happen, begin, run}
 use Rattle.bridges.proofs.Guaranteed.{guaranteed}
-use Rattle.bridges.proofs.Changes.{cond-by}
+use Rattle.std.proofs.shelf.Tests.{cond-both}
 use Rattle.fdb.specs.Entries.{find}
 use Rattle.fdb.specs.Contents.{Contents, empty, aged}
 use Rattle.ports.specs.declared.port.Port.{Port}
@@ -39,7 +39,7 @@ as-it-is n w b i = subst (λ m. Simulates m w) (sym (bridge-same n b)) i
 take-on : (n : Network) (w : World) (b : ℕ) (t : Tree) → b < 128 → treeOf (t .number) (n .trees) ≡ This t → looks 128 t ≡ true → Steady n → Simulates n w →
     (fs : List Event) × Simulates (with-bridge n b (adopted t (n .bridge b))) (follow fs w)
 unfolding follow find
-take-on n w b t lt known good k i = cond-by (isTree (t .number) (n .bridge b .newest .tree)) (λ s. (fs : List Event) × Simulates (with-bridge n b s) (follow fs w)) _ _ (λ _. ([], as-it-is n w b i))
+take-on n w b t lt known good k i = cond-both (isTree (t .number) (n .bridge b .newest .tree)) _ _ (λ s. (fs : List Event) × Simulates (with-bridge n b s) (follow fs w)) (λ _. ([], as-it-is n w b i))
     (λ d. (Adopt b (t .number) ∷ forgot .0, adopting n b (n .bridge b) t (follow (forgot .0) w) lt (k .kept b .older-last) d known good (forgot .1)))
   where
     forgot : (fs : List Event) × Simulates (with-bridge n b (with-tables (n .bridge b) (n .bridge b .newest .table) empty)) (follow fs w)

@@ -10,7 +10,8 @@ use lib.ListN.{set}
 use Rattle.std.specs.declared.option.Option.{Option}
 use Rattle.trees.specs.Tree.{Tree}
 use Rattle.bridges.specs.Net.{Copy, Found, NoTree, This, copyTo, without, at}
-use Rattle.bridges.proofs.Changes.{cond-by, without-mem}
+use Rattle.std.proofs.shelf.Tests.{cond-both}
+use Rattle.bridges.proofs.Changes.{without-mem}
 use Rattle.fdb.specs.declared.entry.Location.{Location}
 use Rattle.fdb.specs.Entries.{ascending}
 use Rattle.fdb.proofs.Ordered.{learned-ascending, ascending-remembered}
@@ -46,11 +47,11 @@ kept-started b ports = record { numbered = refl; newest-sorted = refl; older-sor
 
 kept-adopted : (b : ℕ) (t : Tree) (s : State) → Kept b s → Kept b (adopted t s)
 unfolding ascending
-kept-adopted b t s k = cond-by (isTree (t .number) (s .newest .tree)) (Kept b) s _ (λ _. k)
+kept-adopted b t s k = cond-both (isTree (t .number) (s .newest .tree)) s _ (Kept b) (λ _. k)
     (λ _. record { numbered = k .numbered; newest-sorted = refl; older-sorted = k .newest-sorted; older-last = λ e. absurd (grind arith) })
 
 kept-relinked : (b p : ℕ) (l : Option Link) (s : State) → Kept b s → Kept b (relinked p l s)
-kept-relinked b p l s k = cond-by (mayLink p s) (Kept b) (linked p l s) s (λ _. record { numbered = k .numbered; newest-sorted = k .newest-sorted; older-sorted = k .older-sorted; older-last = k .older-last }) (λ _. k)
+kept-relinked b p l s k = cond-both (mayLink p s) (linked p l s) s (Kept b) (λ _. record { numbered = k .numbered; newest-sorted = k .newest-sorted; older-sorted = k .older-sorted; older-last = k .older-last }) (λ _. k)
 
 kept-aged : (b tick : ℕ) (s : State) → Kept b s → Kept b (agedState tick s)
 kept-aged b tick s k = record {
