@@ -1,0 +1,2 @@
+// What waits to be sent: one row of frames for each port, first in, first out.
+pub mod slot;
