@@ -4,7 +4,7 @@ ghost use mathlib.Core.List.{[], _++_};
 ghost use Prim.Native.Nat.{_+_};
 ghost use lib.Dec.{leb};
 ghost use lib.ListN.{length};
-ghost use Rattle.queues.specs.Slot.{frame};
+ghost use Rattle.rows.specs.Slot.{frame};
 use super::LONGEST_FRAME;
 use super::Slot;
 

@@ -2,7 +2,7 @@
 use Prim.Native.Nat.{ℕ}
 use mathlib.Core.List.{List}
 use lib.ListN.{take}
-use Rattle.queues.specs.declared.slot.Slot.{Slot}
+use Rattle.rows.specs.declared.slot.Slot.{Slot}
 
 abbrev pub frame : Slot → List ℕ
 frame s = take (s .len) (s .bytes)
