@@ -1,1 +1,2 @@
+mod Orders
 mod Rings

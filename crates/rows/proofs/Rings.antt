@@ -1,5 +1,6 @@
 -- The frames of a ring: how many, one more at the end, one less in front.
 use mathlib.Core.Path.{_≡_, refl, sym, ap, subst, _∙_}
+use mathlib.Core.Bool.{Bool, true, false}
 use mathlib.Core.List.{List, [], _∷_, _++_, map}
 use mathlib.Core.Logic.{_≢_}
 use Prim.Native.Nat.{ℕ, zero, suc, _+_, _-_, _%_, _≤_, _<_}
@@ -86,3 +87,7 @@ slots-front ss h n s f len lt some is fs =
 pub lent-empty : (r : Option (RefT Slot)) (ss : List Slot) (i : ℕ) (a : Slot) → i < length ss → frame a ≡ [] → found r (λ x. x .now ≡ getD (set ss i a) i (x .now)) → found r (λ x. frame (x .now) ≡ [])
 lent-empty None ss i a lt none is = tt
 lent-empty (Some x) ss i a lt none is = ap frame (is ∙ getD-set-same ss i a (x .now) lt) ∙ none
+
+-- a row with room always lends
+pub never-none : {A : Type 0} (b : Bool) → b ≡ true → b ≡ false → A
+never-none b some gone = absurd (grind (arith, some, gone))

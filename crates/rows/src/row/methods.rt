@@ -13,10 +13,12 @@ ghost use Rattle.std.specs.Slices.{found};
 ghost use Rattle.std.specs.Vec.{made};
 ghost use Rattle.rows.specs.Slot.{frame};
 ghost use Rattle.rows.specs.Row.{waiting};
+ghost use Rattle.rows.specs.Events.{Comes, Leaves, Clears, takes, after};
 ghost use Rattle.rows.specs.contracts.row.Row.{the-row};
 ghost use Rattle.rows.specs.contracts.slot.Slot.{the-row as slot-row};
 use super::ROW;
 use super::Row;
+use crate::slot::LONGEST_FRAME;
 use crate::slot::Slot;
 use std::alloc::AllocError;
 use std::alloc::Global;
@@ -61,6 +63,20 @@ impl Row {
         self.slots.get_mut(place)
     }
 
+    // Puts a frame behind those that wait; false, and nothing changed, if it is too long or there is no room.
+    pub fn enqueue(&mut self, bytes: &[u8]) -> bool
+        ensures taken { λ r. ⌜ r ≡ takes (now (bytes .entry)) (waiting (now (self .entry))) ⌝ }
+        ensures after { λ _. ⌜ waiting (now (self .exit)) ≡ after (Comes (now (bytes .entry))) (waiting (now (self .entry))) ⌝ }
+    {
+        if bytes.len() > LONGEST_FRAME {
+            return false;
+        }
+        let Some(slot) = self.push() else {
+            return false;
+        };
+        slot.append(bytes)
+    }
+
     // The frame that is to be sent next.
     pub fn front(&self) -> Option<&[u8]>
         ensures { λ r. ⌜ BySome r (waiting (now (self .entry)) ≡ []) (λ f. waiting (now (self .entry)) ≡ now f ∷ drop 1 (waiting (now (self .entry)))) ⌝ }
@@ -74,7 +90,7 @@ impl Row {
     // Lets go of the frame that was to be sent next; false if there was none.
     pub fn pop(&mut self) -> bool
         ensures some { λ r. ⌜ r ≡ ltb 0 (length (waiting (now (self .entry)))) ⌝ }
-        ensures after { λ _. ⌜ waiting (now (self .exit)) ≡ drop 1 (waiting (now (self .entry))) ⌝ }
+        ensures after { λ _. ⌜ waiting (now (self .exit)) ≡ after Leaves (waiting (now (self .entry))) ⌝ }
     {
         if self.used == 0 {
             return false;
@@ -86,7 +102,7 @@ impl Row {
 
     // Drops all frames, as a hold-down asks.
     pub fn clear(&mut self)
-        ensures { λ _. ⌜ waiting (now (self .exit)) ≡ [] ⌝ }
+        ensures { λ _. ⌜ waiting (now (self .exit)) ≡ after Clears (waiting (now (self .entry))) ⌝ }
     {
         self.used = 0;
     }

@@ -6,7 +6,7 @@ use lib.ListN.{length}
 use Rattle.std.proofs.shelf.Ways.{tells}
 use Rattle.std.proofs.shelf.Lists.{length-set}
 use Rattle.std.specs.Options.{isSome}
-use Rattle.rows.proofs.Rings.{length-frames, slots-push, lent-empty}
+use Rattle.rows.proofs.Rings.{length-frames, slots-push, lent-empty, never-none}
 use Rattle.rows.proofs.row.Row.push.Needs as need
 
 pub returns : need.returns
@@ -14,5 +14,5 @@ returns c =
     let q = c .args .self .now in
     let within : (q .head + q .used) % 16 < length (q .slots .items) = omega (arith, q .slots .ok .0) in
     let some : isSome (c .get-mut .result) ≡ true = c .get-mut .ensures .item .2 (simp length-set within) in
-    ((refl, (λ w _. slots-push _ _ _ _ _ w (omega (arith, q .slots .ok .0)) (omega arith) refl), (λ none. absurd (grind (arith, some, none)))),
+    ((refl, (λ w _. slots-push _ _ _ _ _ w (omega (arith, q .slots .ok .0)) (omega arith) refl), (λ none. never-none _ some none)),
     (rw length-frames (grind (arith, tells, some)), lent-empty (c .get-mut .result) _ _ _ within (c .clear .ensures) (c .get-mut .ensures .item .1)))

@@ -1,0 +1,2 @@
+pub mod port;
+pub mod queues;

@@ -1,0 +1,8 @@
+use rows::budget::Budget;
+use rows::row::Row;
+
+#[derive(Drop)]
+pub struct PortQueue {
+    pub row: Row,
+    pub budget: Budget,
+}
