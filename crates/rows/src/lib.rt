@@ -3,3 +3,6 @@ pub mod budget;
 pub mod order;
 pub mod row;
 pub mod slot;
+
+#[cfg(test)]
+mod tests;
