@@ -1,2 +1,3 @@
 pub mod Acks
 pub mod Tables
+pub mod Waits

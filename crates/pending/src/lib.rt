@@ -1,4 +1,13 @@
 // The control messages that wait to be sent by one port: of each kind and bridge only the newest.
+mod control;
 mod link_acks;
+mod messages;
+mod tree_acks;
+
+pub use control::Control;
+pub use link_acks::LinkAck;
 pub use link_acks::LinkAcks;
 pub use link_acks::Version;
+pub use messages::Pending;
+pub use tree_acks::TreeAck;
+pub use tree_acks::TreeAcks;

@@ -25,6 +25,13 @@ impl Version {
     }
 }
 
+// "I have this link state": what is said to whoever brought it.
+#[derive(Clone, Copy)]
+pub struct LinkAck {
+    pub bridge: BridgeId,
+    pub version: Version,
+}
+
 // For each bridge whose link state is to be acknowledged, the newest version that came.
 #[derive(Clone, Copy)]
 pub struct LinkAcks {
@@ -51,12 +58,13 @@ impl LinkAcks {
         }
     }
 
-    // The lowest bridge of which something is to be acknowledged, and what.
-    pub fn first(&self) -> Option<(BridgeId, Version)>
-        ensures { λ r. ⌜ BySome r ((k : ℕ) → linkAcks (now (self .entry)) k ≡ None) (λ x. First (linkAcks (now (self .entry))) (x .0 .value) (x .1)) ⌝ }
+    // The acknowledgement for the lowest bridge.
+    pub fn first(&self) -> Option<LinkAck>
+        ensures { λ r. ⌜ BySome r ((k : ℕ) → linkAcks (now (self .entry)) k ≡ None) (λ x. First (linkAcks (now (self .entry))) (x .bridge .value) (x .version)) ⌝ }
     {
         let bridge = self.waits.first()?;
-        Some((bridge, self.newest[bridge.index()]))
+        let version = self.newest[bridge.index()];
+        Some(LinkAck { bridge, version })
     }
 
     // The acknowledgement of this bridge's link state no longer waits.
