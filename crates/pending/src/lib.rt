@@ -3,6 +3,7 @@ mod control;
 mod link_acks;
 mod messages;
 mod tree_acks;
+pub mod theorems;
 
 pub use control::Control;
 pub use link_acks::LinkAck;
