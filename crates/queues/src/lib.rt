@@ -1,2 +1,6 @@
-pub mod port;
-pub mod queues;
+// What leaves by each port: control messages first, then frames in the order in which they came, up to 64 each tick.
+mod port;
+mod queues;
+
+pub use port::PortQueue;
+pub use queues::Queues;
