@@ -56,3 +56,18 @@ withoutOut (Some (Carries f)) p = record { control = p .control; frames = drop 1
 
 abbrev pub afterOut : Port → Port
 afterOut p = withoutOut (outOf p) p
+
+-- a frame waits behind the others
+abbrev pub withFrame : List ℕ → Port → Port
+withFrame f p = record { control = p .control; frames = p .frames ++ f ∷ []; sent = p .sent }
+
+abbrev pub withControl : Waits → Port → Port
+withControl w p = record { control = w; frames = p .frames; sent = p .sent }
+
+-- a tick passed
+abbrev pub refilled : Port → Port
+refilled p = record { control = p .control; frames = p .frames; sent = 0 }
+
+-- a hold-down began
+abbrev pub emptied : Port → Port
+emptied p = record { control = p .control; frames = []; sent = p .sent }

@@ -3,6 +3,8 @@ ghost use mathlib.Core.Path.{_≡_};
 ghost use Rattle.std.specs.Of.Vec.{vec-len};
 use crate::PortQueue;
 
+mod methods;
+
 // How many ports a bridge has at most.
 pub const PORTS: usize = 16;
 
