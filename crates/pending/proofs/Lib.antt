@@ -1,2 +1,2 @@
 mod Lowest
-mod Words
+pub mod Words

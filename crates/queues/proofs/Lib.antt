@@ -1,1 +1,2 @@
 mod Ports
+mod Runs

@@ -1,6 +1,7 @@
 // What leaves by each port: control messages first, then frames in the order in which they came, up to 64 each tick.
 mod port;
 mod queues;
+pub mod theorems;
 
 pub use port::PortQueue;
 pub use queues::Queues;
