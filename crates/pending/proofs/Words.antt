@@ -39,9 +39,10 @@ unfolding lowest
 found f k zero m e = apart e
 found f k (suc n) m e =
     elim (either (f k) (lowest f (k + 1) n) m e) [
-      inl h ↦ record { place = k; low = omega arith; here = h; below = λ j p q. absurd (omega arith) }
-    | inr h ↦ let r = found f (k + 1) n m (h .1) in
-        record { place = r .place; low = let l = r .low in omega arith; here = r .here; below = λ j p q. elim (ℕ-discrete k j) [ yes s ↦ sym (ap f s) ∙ h .0 | no s ↦ r .below j (omega arith) q ] } ]
+      | inl h ↦ record { place = k; low = omega arith; here = h; below = λ j p q. absurd (omega arith) }
+      | inr h ↦ let r = found f (k + 1) n m (h .1) in
+          record { place = r .place; low = let l = r .low in omega arith; here = r .here; below = λ j p q. elim (ℕ-discrete k j) [ yes s ↦ sym (ap f s) ∙ h .0 | no s ↦ r .below j (omega arith) q ] }
+    ]
 
 nowhere : (f : ℕ → Option Message) (k n : ℕ) → lowest f k n ≡ None → (j : ℕ) → k ≤ j → j < k + n → f j ≡ None
 unfolding lowest
@@ -61,13 +62,19 @@ abbrev First : Waits → Message → Type 0
 First w m = (kind : ℕ) × (bridge : ℕ) × (at w kind bridge ≡ Some m) × ((k b : ℕ) (n : Message) → b < 128 → at w k b ≡ Some n → (kind < k) ⊎ ((kind ≡ k) × (bridge ≤ b)))
 
 chosen : (w : Waits) (kind : ℕ) (m : Message) → Passed w kind → Found (at w kind) 0 m → First w m
-chosen w kind m p r =
-    (kind, r .place, r .here, λ k b n h e.
+chosen w kind m p r = (
+  kind,
+  r .place,
+  r .here,
+  λ k b n h e.
       elim (decLt k kind) [
-        yes lt ↦ apart (sym (p k lt b h) ∙ e)
-      | no ge ↦ elim (ℕ-discrete kind k) [
-          no s ↦ inl (omega arith)
-        | yes s ↦ inr (s, elim (decLt b (r .place)) [ yes lt ↦ apart (sym (r .below b (omega arith) lt) ∙ ap (λ i. at w i b) s ∙ e) | no q ↦ omega arith ]) ] ])
+        | yes lt ↦ apart (sym (p k lt b h) ∙ e)
+        | no ge ↦ elim (ℕ-discrete kind k) [
+          | no s ↦ inl (omega arith)
+          | yes s ↦ inr (s, elim (decLt b (r .place)) [ yes lt ↦ apart (sym (r .below b (omega arith) lt) ∙ ap (λ i. at w i b) s ∙ e) | no q ↦ omega arith ])
+        ]
+      ],
+)
 
 no-hello : (w : Waits) → at w 0 0 ≡ None → Passed w 1
 no-hello w e k lt b h = let z : 0 ≡ k = omega arith in subst (λ i. at w i b ≡ None) z e
@@ -75,14 +82,18 @@ no-hello w e k lt b h = let z : 0 ≡ k = omega arith in subst (λ i. at w i b �
 pub lowest-first : Lowest-first
 lowest-first w m e =
     elim (either (at w 0 0) _ m e) [
-      inl h ↦ chosen w 0 m (λ k lt b _. absurd (omega arith)) (record { place = 0; low = omega arith; here = h; below = λ j _ lt. absurd (omega arith) })
-    | inr r1 ↦ let p1 = no-hello w (r1 .0) in elim (either (lowest (at w 1) 0 128) _ m (r1 .1)) [
-      inl h ↦ chosen w 1 m p1 (found (at w 1) 0 128 m h)
-    | inr r2 ↦ let p2 = more w 1 p1 (r2 .0) in elim (either (lowest (at w 2) 0 128) _ m (r2 .1)) [
-      inl h ↦ chosen w 2 m p2 (found (at w 2) 0 128 m h)
-    | inr r3 ↦ let p3 = more w 2 p2 (r3 .0) in elim (either (lowest (at w 3) 0 128) _ m (r3 .1)) [
-      inl h ↦ chosen w 3 m p3 (found (at w 3) 0 128 m h)
-    | inr r4 ↦ chosen w 4 m (more w 3 p3 (r4 .0)) (found (at w 4) 0 128 m (r4 .1)) ] ] ] ]
+      | inl h ↦ chosen w 0 m (λ k lt b _. absurd (omega arith)) (record { place = 0; low = omega arith; here = h; below = λ j _ lt. absurd (omega arith) })
+      | inr r1 ↦ let p1 = no-hello w (r1 .0) in elim (either (lowest (at w 1) 0 128) _ m (r1 .1)) [
+        | inl h ↦ chosen w 1 m p1 (found (at w 1) 0 128 m h)
+        | inr r2 ↦ let p2 = more w 1 p1 (r2 .0) in elim (either (lowest (at w 2) 0 128) _ m (r2 .1)) [
+          | inl h ↦ chosen w 2 m p2 (found (at w 2) 0 128 m h)
+          | inr r3 ↦ let p3 = more w 2 p2 (r3 .0) in elim (either (lowest (at w 3) 0 128) _ m (r3 .1)) [
+            | inl h ↦ chosen w 3 m p3 (found (at w 3) 0 128 m h)
+            | inr r4 ↦ chosen w 4 m (more w 3 p3 (r4 .0)) (found (at w 4) 0 128 m (r4 .1))
+          ]
+        ]
+      ]
+    ]
 
 beyond : (w : Waits) (k b : ℕ) → 5 ≤ k → at w k b ≡ None
 beyond w zero b h = absurd (omega arith)
@@ -125,18 +136,31 @@ best newer o t b s (x ∷ xs) e = go (newer x s) refl (λ s′ f. best newer o (
     go true q ih =
         let r = ih x (noted-here newer t b s x e ∙ ap (λ c. Some (cond c x s)) q) in
         let newest = r .best in
-        record { best = newest; waits = r .waits; one = List·Memᴰ·tail (r .one); none = λ y m. elim (List·Memᴰ·cases-cons m) [
-          inl h ↦ ap (λ z. newer z newest) h ∙ o .up x s newest q (r .none x (List·Memᴰ·head refl))
-        | inr n ↦ r .none y n ] }
+        record {
+          best = newest;
+          waits = r .waits;
+          one = List·Memᴰ·tail (r .one);
+          none = λ y m. elim (List·Memᴰ·cases-cons m) [
+            | inl h ↦ ap (λ z. newer z newest) h ∙ o .up x s newest q (r .none x (List·Memᴰ·head refl))
+            | inr n ↦ r .none y n
+          ];
+        }
     go false q ih =
         let r = ih s (noted-here newer t b s x e ∙ ap (λ c. Some (cond c x s)) q) in
         let newest = r .best in
         let still : newer s newest ≡ false = r .none s (List·Memᴰ·head refl) in
-        record { best = newest; waits = r .waits; one = elim (List·Memᴰ·cases-cons (r .one)) [ inl h ↦ List·Memᴰ·head h | inr n ↦ List·Memᴰ·tail (List·Memᴰ·tail n) ]; none = λ y m. elim (List·Memᴰ·cases-cons m) [
-          inl h ↦ ap (λ z. newer z newest) h ∙ still
-        | inr n ↦ elim (List·Memᴰ·cases-cons n) [
-            inl h ↦ ap (λ z. newer z newest) h ∙ o .down x s newest q still
-          | inr k ↦ r .none y (List·Memᴰ·tail k) ] ] }
+        record {
+          best = newest;
+          waits = r .waits;
+          one = elim (List·Memᴰ·cases-cons (r .one)) [ inl h ↦ List·Memᴰ·head h | inr n ↦ List·Memᴰ·tail (List·Memᴰ·tail n) ];
+          none = λ y m. elim (List·Memᴰ·cases-cons m) [
+            | inl h ↦ ap (λ z. newer z newest) h ∙ still
+            | inr n ↦ elim (List·Memᴰ·cases-cons n) [
+              | inl h ↦ ap (λ z. newer z newest) h ∙ o .down x s newest q still
+              | inr k ↦ r .none y (List·Memᴰ·tail k)
+            ]
+          ];
+        }
 
 only-newest : {X : Type 0} (newer : X → X → Bool) → Order newer → OnlyNewest newer
 only-newest newer o t b x xs e =

@@ -2,13 +2,13 @@
 mod control;
 mod link_acks;
 mod messages;
-mod tree_acks;
 pub mod theorems;
+mod tree_acks;
 
 pub use control::Control;
 pub use link_acks::LinkAck;
-pub use link_acks::LinkAcks;
+pub(crate) use link_acks::LinkAcks;
 pub use link_acks::Version;
 pub use messages::Pending;
 pub use tree_acks::TreeAck;
-pub use tree_acks::TreeAcks;
+pub(crate) use tree_acks::TreeAcks;

@@ -21,7 +21,8 @@ impl Version {
     pub fn is_newer_than(self, other: Version) -> bool
         ensures { λ r. ⌜ r ≡ later self other ⌝ }
     {
-        self.count > other.count || (self.count == other.count && self.incarnation > other.incarnation)
+        self.count > other.count
+            || (self.count == other.count && self.incarnation > other.incarnation)
     }
 }
 
@@ -34,21 +35,27 @@ pub struct LinkAck {
 
 // For each bridge whose link state is to be acknowledged, the newest version that came.
 #[derive(Clone, Copy)]
-pub struct LinkAcks {
+pub(crate) struct LinkAcks {
     waits: BridgeSet,
     newest: [Version; 128],
 }
 
 impl LinkAcks {
     // Nothing to acknowledge.
-    pub fn new() -> LinkAcks
+    pub(crate) fn new() -> LinkAcks
         ensures { λ r. ⌜ ((k : ℕ) → linkAcks r k ≡ None) ⌝ }
     {
-        LinkAcks { waits: BridgeSet::empty(), newest: [Version { count: 0, incarnation: 0 }; 128] }
+        LinkAcks {
+            waits: BridgeSet::empty(),
+            newest: [Version {
+                count: 0,
+                incarnation: 0,
+            }; 128],
+        }
     }
 
     // Notes what is to be acknowledged, unless something as new already waits.
-    pub fn add(&mut self, bridge: BridgeId, version: Version)
+    pub(crate) fn add(&mut self, bridge: BridgeId, version: Version)
         ensures { λ _. ⌜ ((k : ℕ) → linkAcks (now (self .exit)) k ≡ noted later (bridge .value) version (linkAcks (now (self .entry))) k) ⌝ }
     {
         let i = bridge.index();
@@ -59,7 +66,7 @@ impl LinkAcks {
     }
 
     // The acknowledgement for the lowest bridge.
-    pub fn first(&self) -> Option<LinkAck>
+    pub(crate) fn first(&self) -> Option<LinkAck>
         ensures { λ r. ⌜ BySome r ((k : ℕ) → linkAcks (now (self .entry)) k ≡ None) (λ x. First (linkAcks (now (self .entry))) (x .bridge .value) (x .version)) ⌝ }
     {
         let bridge = self.waits.first()?;
@@ -68,7 +75,7 @@ impl LinkAcks {
     }
 
     // The acknowledgement of this bridge's link state no longer waits.
-    pub fn remove(&mut self, bridge: BridgeId)
+    pub(crate) fn remove(&mut self, bridge: BridgeId)
         ensures { λ _. ⌜ ((k : ℕ) → linkAcks (now (self .exit)) k ≡ removed (bridge .value) (linkAcks (now (self .entry))) k) ⌝ }
     {
         self.waits = self.waits.without(bridge);

@@ -17,21 +17,24 @@ pub struct TreeAck {
 
 // For each announcer of whom a tree is to be acknowledged, the highest number of a tree that came.
 #[derive(Clone, Copy)]
-pub struct TreeAcks {
+pub(crate) struct TreeAcks {
     waits: BridgeSet,
     newest: [u64; 128],
 }
 
 impl TreeAcks {
     // Nothing to acknowledge.
-    pub fn new() -> TreeAcks
+    pub(crate) fn new() -> TreeAcks
         ensures { λ r. ⌜ ((k : ℕ) → treeAcks r k ≡ None) ⌝ }
     {
-        TreeAcks { waits: BridgeSet::empty(), newest: [0; 128] }
+        TreeAcks {
+            waits: BridgeSet::empty(),
+            newest: [0; 128],
+        }
     }
 
     // Notes what is to be acknowledged, unless something as new already waits.
-    pub fn add(&mut self, announcer: BridgeId, number: u64)
+    pub(crate) fn add(&mut self, announcer: BridgeId, number: u64)
         ensures { λ _. ⌜ ((k : ℕ) → treeAcks (now (self .exit)) k ≡ noted higher (announcer .value) number (treeAcks (now (self .entry))) k) ⌝ }
     {
         let i = announcer.index();
@@ -42,7 +45,7 @@ impl TreeAcks {
     }
 
     // The acknowledgement for the lowest announcer.
-    pub fn first(&self) -> Option<TreeAck>
+    pub(crate) fn first(&self) -> Option<TreeAck>
         ensures { λ r. ⌜ BySome r ((k : ℕ) → treeAcks (now (self .entry)) k ≡ None) (λ x. First (treeAcks (now (self .entry))) (x .announcer .value) (x .number)) ⌝ }
     {
         let announcer = self.waits.first()?;
@@ -51,7 +54,7 @@ impl TreeAcks {
     }
 
     // The acknowledgement of this announcer's tree no longer waits.
-    pub fn remove(&mut self, announcer: BridgeId)
+    pub(crate) fn remove(&mut self, announcer: BridgeId)
         ensures { λ _. ⌜ ((k : ℕ) → treeAcks (now (self .exit)) k ≡ removed (announcer .value) (treeAcks (now (self .entry))) k) ⌝ }
     {
         self.waits = self.waits.without(announcer);

@@ -93,7 +93,8 @@ run-with (e ∷ es) h p left came w =
     record {
       waits = ap (λ (x : History). x .waits) t ∙ r .waits;
       gone = ap (λ (x : History). x .left) t ∙ r .gone ∙ append-assoc left (leaving e p) (framesLeave es (step e p));
-      arrived = ap (λ (x : History). x .came) t ∙ r .arrived ∙ append-assoc came (arriving e) (framesCome es) ∙ ap (λ xs. came ++ xs) (sym (come-more e es)) }
+      arrived = ap (λ (x : History). x .came) t ∙ r .arrived ∙ append-assoc came (arriving e) (framesCome es) ∙ ap (λ xs. came ++ xs) (sym (come-more e es));
+    }
 
 pub port-order : Port-order
 port-order es =

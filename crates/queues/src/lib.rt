@@ -3,5 +3,5 @@ mod port;
 mod queues;
 pub mod theorems;
 
-pub use port::PortQueue;
+pub(crate) use port::PortQueue;
 pub use queues::Queues;

@@ -13,7 +13,7 @@ use std::alloc::Global;
 
 // The messages and frames that wait, and how many frames left in this tick.
 #[derive(Drop)]
-pub struct PortQueue {
+pub(crate) struct PortQueue {
     pub(crate) pending: Pending,
     pub(crate) row: Row,
     pub(crate) budget: Budget,
@@ -21,22 +21,26 @@ pub struct PortQueue {
 
 impl PortQueue {
     // Nothing waits, and nothing was sent.
-    pub fn new(heap: Global) -> Result<PortQueue, AllocError>
+    pub(crate) fn new(heap: Global) -> Result<PortQueue, AllocError>
         ensures { λ r. ⌜ made r (λ q. portOf q ≡ idle) ⌝ }
     {
         let row = Row::new(heap)?;
-        Ok(PortQueue { pending: Pending::new(), row, budget: Budget::new() })
+        Ok(PortQueue {
+            pending: Pending::new(),
+            row,
+            budget: Budget::new(),
+        })
     }
 
     // The message that leaves next.
-    pub fn next_message(&self) -> Option<Control>
+    pub(crate) fn next_message(&self) -> Option<Control>
         ensures { λ r. ⌜ mapped messageOf r ≡ messageIn (outOf (portOf (now (self .entry)))) ⌝ }
     {
         self.pending.peek()
     }
 
     // The frame that leaves next: none while a message waits, or once the port has sent all that it may in this tick.
-    pub fn next_frame(&self) -> Option<&[u8]>
+    pub(crate) fn next_frame(&self) -> Option<&[u8]>
         ensures { λ r. ⌜ mapped now r ≡ frameIn (outOf (portOf (now (self .entry)))) ⌝ }
     {
         if self.pending.peek().is_some() || self.budget.is_spent() {
@@ -46,7 +50,7 @@ impl PortQueue {
     }
 
     // What was to leave next has left; false if there was nothing.
-    pub fn sent(&mut self) -> bool
+    pub(crate) fn sent(&mut self) -> bool
         ensures some { λ r. ⌜ r ≡ isSome (outOf (portOf (now (self .entry)))) ⌝ }
         ensures after { λ _. ⌜ portOf (now (self .exit)) ≡ afterOut (portOf (now (self .entry))) ⌝ }
     {

@@ -3,6 +3,5 @@ pub mod budget;
 pub mod order;
 pub mod row;
 pub mod slot;
-
 #[cfg(test)]
 mod tests;

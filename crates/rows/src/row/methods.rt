@@ -32,7 +32,11 @@ impl Row {
         for _i in 0..ROW {
             slots.push_reserved(Slot::new());
         }
-        Ok(Row { slots, head: 0, used: 0 })
+        Ok(Row {
+            slots,
+            head: 0,
+            used: 0,
+        })
     }
 
     // How many frames wait.

@@ -13,7 +13,10 @@ impl Slot {
     pub fn new() -> Slot
         ensures { λ r. ⌜ frame r ≡ [] ⌝ }
     {
-        Slot { bytes: [0; 1529], len: 0 }
+        Slot {
+            bytes: [0; 1529],
+            len: 0,
+        }
     }
 
     // How long the frame is so far.

@@ -9,10 +9,12 @@ pub returns-then-port-ge-PORTS : need.returns-then-port-ge-PORTS
 returns-then-port-ge-PORTS c =
     record {
       some = ap isSome (sym (no-out (c .args .self .now .ports .items) (c .args .port) (omega arith)));
-      after = port-past (c .args .self .now .ports .items) (c .args .port) afterOut (omega (arith, c .args .self .now .ports .ok .0)) }
+      after = port-past (c .args .self .now .ports .items) (c .args .port) afterOut (omega (arith, c .args .self .now .ports .ok .0));
+    }
 
 pub returns : need.returns
 returns c =
     record {
       some = c .sent .ensures .some ∙ ap isSome (out-at (c .args .self .now .ports .items) (c .args .port) (c .index-mut .result .now) (omega arith) (omega (arith, c .args .self .now .ports .ok .0)) (c .index-mut .ensures .value));
-      after = port-set (c .args .self .now .ports .items) (c .args .port) (c .index-mut .result .now) _ afterOut (omega (arith, c .args .self .now .ports .ok .0)) (c .index-mut .ensures .value) (c .sent .ensures .after) }
+      after = port-set (c .args .self .now .ports .items) (c .args .port) (c .index-mut .result .now) _ afterOut (omega (arith, c .args .self .now .ports .ok .0)) (c .index-mut .ensures .value) (c .sent .ensures .after);
+    }

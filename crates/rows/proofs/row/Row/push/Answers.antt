@@ -13,6 +13,7 @@ pub returns : need.returns
 returns c =
     let q = c .args .self .now in
     let within : (q .head + q .used) % 16 < length (q .slots .items) = omega (arith, q .slots .ok .0) in
-    let some : isSome (c .get-mut .result) ≡ true = c .get-mut .ensures .item .2 (simp length-set within) in
-    ((refl, (λ w _. slots-push _ _ _ _ _ w (omega (arith, q .slots .ok .0)) (omega arith) refl), (λ none. never-none _ some none)),
-    (rw length-frames (grind (arith, tells, some)), lent-empty (c .get-mut .result) _ _ _ within (c .clear .ensures) (c .get-mut .ensures .item .1)))
+    let some : isSome (c .get-mut .result) ≡ true = c .get-mut .ensures .item .2 (simp length-set within) in (
+      (refl, (λ w _. slots-push _ _ _ _ _ w (omega (arith, q .slots .ok .0)) (omega arith) refl), (λ none. never-none _ some none)),
+      (rw length-frames (grind (arith, tells, some)), lent-empty (c .get-mut .result) _ _ _ within (c .clear .ensures) (c .get-mut .ensures .item .1)),
+    )
