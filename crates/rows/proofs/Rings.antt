@@ -91,3 +91,7 @@ lent-empty (Some x) ss i a lt none is = ap frame (is ∙ getD-set-same ss i a (x
 -- a row with room always lends
 pub never-none : {A : Type 0} (b : Bool) → b ≡ true → b ≡ false → A
 never-none b some gone = absurd (grind (arith, some, gone))
+
+-- the ring turned, and one frame fewer counted
+pub slots-pop : (ss ts : List Slot) (h g n m : ℕ) → ts ≡ ss → g ≡ (h + 1) % 16 → m ≡ n → 0 < n → framesFrom (map frame ts) g (m - 1) ≡ drop 1 (framesFrom (map frame ss) h n)
+slots-pop ss ts h g n m e f k some = rw (e, f, k) (frames-pop (map frame ss) h n some)

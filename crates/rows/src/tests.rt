@@ -6,33 +6,36 @@ use std::test::*;
 #[test]
 fn row_at_its_edges(rt: LibcRuntime) -> Result<(), Fail> {
     let mut row = Row::new(rt.alloc())?;
-    check(!row.enqueue(&[0; 1530]))?;
-    check(row.front().is_none())?;
-    check(row.enqueue(&[7; 1529]))?;
-    check(row.pop())?;
-    check(!row.pop())?;
-    for n in 0..16u8 {
-        check(row.enqueue(&[n, 1]))?;
+    for turn in 0..3u8 {
+        check(row.enqueue(&[turn]) && row.pop())?;
+        for n in 0..20u8 {
+            check(row.enqueue(&[n, turn]) == (n < 16))?;
+        }
+        for n in 0..16u8 {
+            check(row.front() == Some(&[n, turn]) && row.pop())?;
+        }
     }
-    check(row.is_full())?;
-    check(!row.enqueue(&[16, 1]))?;
-    for n in 0..16u8 {
-        check(row.front() == Some(&[n, 1]))?;
-        check(row.pop())?;
-    }
-    check(row.enqueue(&[17]))?;
+    check(row.front().is_none() && !row.pop())
+}
+
+// The longest frame fits, and one byte more does not.
+#[test]
+fn frame_at_its_edges(rt: LibcRuntime) -> Result<(), Fail> {
+    let mut row = Row::new(rt.alloc())?;
+    check(!row.enqueue(&[0; 1530]) && row.enqueue(&[7; 1529]))?;
     row.clear();
-    check_eq(row.len(), 0)
+    check(row.front().is_none())
 }
 
 // Sixty-four frames may leave in a tick, and as many in the next.
 #[test]
 fn budget_at_its_edge() -> Result<(), Fail> {
     let mut budget = Budget::new();
-    for _ in 0..64u8 {
-        check(budget.take())?;
+    for _tick in 0..2u8 {
+        for n in 0..66u8 {
+            check(budget.take() == (n < 64))?;
+        }
+        budget.refill();
     }
-    check(!budget.take())?;
-    budget.refill();
-    check(budget.take())
+    Ok(())
 }

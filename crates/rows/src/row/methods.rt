@@ -1,15 +1,16 @@
 ghost use mathlib.Core.Path.{_≡_};
 ghost use mathlib.Core.Bool.{true, false};
 ghost use mathlib.Core.List.{[], _∷_, _++_};
-ghost use Prim.Native.Nat.{_+_};
+ghost use Prim.Native.Nat.{_+_, _%_};
 ghost use lib.Dec.{ltb, eqb, leb};
-ghost use lib.ListN.{length, drop};
+ghost use lib.ListN.{length, getD, drop};
 ghost use ghost.Atoms.{sem};
 ghost use denote.Ref.{name};
 ghost use denote.Follow.{follows-so};
 ghost use Rattle.std.specs.Changed.{nameOf};
 ghost use Rattle.std.specs.Options.{isSome, Cases as BySome};
 ghost use Rattle.std.specs.Slices.{found};
+ghost use Rattle.std.specs.Of.Vec.{vec-items};
 ghost use Rattle.std.specs.Vec.{made};
 ghost use Rattle.rows.specs.Slot.{frame};
 ghost use Rattle.rows.specs.Row.{waiting};
@@ -39,18 +40,25 @@ impl Row {
         })
     }
 
-    // How many frames wait.
-    pub fn len(&self) -> usize
-        ensures { λ r. ⌜ r ≡ length (waiting (now (self .entry))) ⌝ }
+    // The place behind the last frame that waits.
+    fn behind_last(&self) -> usize
+        ensures { λ r. ⌜ r ≡ (now (self .entry) .head + now (self .entry) .used) % 16 ⌝ }
     {
-        self.used
+        (self.head + self.used) % ROW
     }
 
-    // Whether there is no room for another frame.
-    pub fn is_full(&self) -> bool
-        ensures { λ r. ⌜ r ≡ leb 16 (length (waiting (now (self .entry)))) ⌝ }
+    // The place of the frame that came first.
+    fn first(&self) -> &Slot
+        ensures { λ r. ⌜ now r ≡ getD (vec-items (now (self .entry) .slots)) (now (self .entry) .head) (now r) ⌝ }
     {
-        self.used == ROW
+        &self.slots[self.head]
+    }
+
+    // The ring turns by one place.
+    fn turn(&mut self)
+        ensures { λ _. ⌜ (now (self .exit) .slots ≡ now (self .entry) .slots) × (now (self .exit) .head ≡ (now (self .entry) .head + 1) % 16) × (now (self .exit) .used ≡ now (self .entry) .used) ⌝ }
+    {
+        self.head = (self.head + 1) % ROW;
     }
 
     // Lends the place of the next frame, empty, and counts it as waiting: what is written there is the last frame of the
@@ -61,7 +69,7 @@ impl Row {
         if self.used >= ROW {
             return None;
         }
-        let place = (self.head + self.used) % ROW;
+        let place = self.behind_last();
         self.used += 1;
         self.slots[place].clear();
         self.slots.get_mut(place)
@@ -88,7 +96,7 @@ impl Row {
         if self.used == 0 {
             return None;
         }
-        Some(self.slots[self.head].as_bytes())
+        Some(self.first().as_bytes())
     }
 
     // Lets go of the frame that was to be sent next; false if there was none.
@@ -99,7 +107,7 @@ impl Row {
         if self.used == 0 {
             return false;
         }
-        self.head = (self.head + 1) % ROW;
+        self.turn();
         self.used -= 1;
         true
     }

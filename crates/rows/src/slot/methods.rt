@@ -19,13 +19,6 @@ impl Slot {
         }
     }
 
-    // How long the frame is so far.
-    pub fn len(&self) -> usize
-        ensures { λ r. ⌜ r ≡ length (frame (now (self .entry))) ⌝ }
-    {
-        self.len
-    }
-
     // The frame, as it goes out.
     pub fn as_bytes(&self) -> &[u8]
         ensures { λ r. ⌜ now r ≡ frame (now (self .entry)) ⌝ }
