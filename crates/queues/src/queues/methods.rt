@@ -1,20 +1,21 @@
 ghost use mathlib.Core.Path.{_≡_};
 ghost use mathlib.Core.Bool.{true, false};
 ghost use mathlib.Core.List.{[], map};
+ghost use Prim.Native.Nat.{_≤_, _<_};
 ghost use lib.Dec.{ltb};
 ghost use lib.ListN.{replicate};
 ghost use ghost.Atoms.{sem};
 ghost use denote.Ref.{name};
 ghost use denote.Follow.{follows-so};
 ghost use Rattle.std.specs.Changed.{nameOf};
-ghost use Rattle.std.specs.Options.{isSome, mapped};
+ghost use Rattle.std.specs.Options.{isSome, mapped, Cases as BySome};
 ghost use Rattle.std.specs.Slices.{found};
 ghost use Rattle.std.specs.Vec.{made};
 ghost use Rattle.rows.specs.Slot.{frame};
 ghost use Rattle.rows.specs.contracts.slot.Slot.{the-row as slot-row};
 ghost use Rattle.pending.specs.Waits.{waits, messageOf};
 ghost use Rattle.pending.specs.contracts.messages.Pending.{the-row as pending-row};
-ghost use Rattle.queues.specs.Port.{idle, messageIn, frameIn, afterOut, withFrame, withControl, refilled, emptied};
+ghost use Rattle.queues.specs.Port.{portOf, idle, messageIn, frameIn, afterOut, withFrame, withControl, refilled, emptied};
 ghost use Rattle.queues.specs.Ports.{portsOf, changed, portAt, roomAt, outAt};
 ghost use Rattle.queues.specs.contracts.queues.Queues.{the-row};
 use super::PORTS;
@@ -53,30 +54,35 @@ impl Queues {
     pub fn pending(&mut self, port: usize) -> Option<&mut Pending>
         ensures lent { λ r. sem 𝓤 H A (follows-so the-row pending-row (name (self .entry)) (nameOf r) (λ w n. (isSome r ≡ true → portsOf n ≡ changed port (withControl (waits w)) (portsOf (now (self .entry))))) (λ n. (isSome r ≡ false → portsOf n ≡ portsOf (now (self .entry))))) ∗ ⌜ (isSome r ≡ ltb port 16) × found r (λ x. waits (now x) ≡ portAt port (portsOf (now (self .entry))) .control) ⌝ }
     {
-        if port >= PORTS {
+        if PORTS <= port {
             return None;
         }
         Some(&mut self.ports[port].pending)
+    }
+
+    // What waits at a port, if it is there.
+    fn queue(&self, port: usize) -> Option<&PortQueue>
+        ensures { λ r. ⌜ BySome r (16 ≤ port) (λ q. (port < 16) × (portOf (now q) ≡ portAt port (portsOf (now (self .entry))))) ⌝ }
+    {
+        if port < PORTS {
+            Some(&self.ports[port])
+        } else {
+            None
+        }
     }
 
     // The message that leaves next by a port.
     pub fn next_message(&self, port: usize) -> Option<Control>
         ensures { λ r. ⌜ mapped messageOf r ≡ messageIn (outAt port (portsOf (now (self .entry)))) ⌝ }
     {
-        if port >= PORTS {
-            return None;
-        }
-        self.ports[port].next_message()
+        self.queue(port)?.next_message()
     }
 
     // The frame that leaves next by a port: none while a message waits there, or once it has sent 64 in this tick.
     pub fn next_frame(&self, port: usize) -> Option<&[u8]>
         ensures { λ r. ⌜ mapped now r ≡ frameIn (outAt port (portsOf (now (self .entry)))) ⌝ }
     {
-        if port >= PORTS {
-            return None;
-        }
-        self.ports[port].next_frame()
+        self.queue(port)?.next_frame()
     }
 
     // What was to leave next by a port has left; false if there was nothing.
@@ -84,17 +90,18 @@ impl Queues {
         ensures some { λ r. ⌜ r ≡ isSome (outAt port (portsOf (now (self .entry)))) ⌝ }
         ensures after { λ _. ⌜ portsOf (now (self .exit)) ≡ changed port afterOut (portsOf (now (self .entry))) ⌝ }
     {
-        if port >= PORTS {
-            return false;
+        if port < self.ports.len() {
+            self.ports[port].sent()
+        } else {
+            false
         }
-        self.ports[port].sent()
     }
 
     // A hold-down of one port: its frames are dropped, and messages go on.
     pub fn clear(&mut self, port: usize)
         ensures { λ _. ⌜ portsOf (now (self .exit)) ≡ changed port emptied (portsOf (now (self .entry))) ⌝ }
     {
-        if port < PORTS {
+        if PORTS > port {
             self.ports[port].row.clear();
         }
     }
@@ -103,8 +110,8 @@ impl Queues {
     pub fn clear_all(&mut self)
         ensures { λ _. ⌜ portsOf (now (self .exit)) ≡ map emptied (portsOf (now (self .entry))) ⌝ }
     {
-        for i in 0..PORTS {
-            self.ports[i].row.clear();
+        for port in 0..PORTS {
+            self.ports[port].row.clear();
         }
     }
 

@@ -5,5 +5,5 @@ use Rattle.queues.specs.Port.{emptied}
 use Rattle.queues.specs.Ports.{portsOf}
 use Rattle.queues.proofs.queues.Queues.clear_all.Given as given
 
-abbrev pub Inv-loop-i : given.InvT-loop-i
-Inv-loop-i l = portsOf (l .self) ≡ map emptied (take (l .i) (portsOf (l .entry .self))) ++ drop (l .i) (portsOf (l .entry .self))
+abbrev pub Inv-loop-port : given.InvT-loop-port
+Inv-loop-port l = portsOf (l .self) ≡ map emptied (take (l .port) (portsOf (l .entry .self))) ++ drop (l .port) (portsOf (l .entry .self))
