@@ -2,6 +2,8 @@
 mod control;
 mod link_acks;
 mod messages;
+#[cfg(test)]
+mod tests;
 pub mod theorems;
 mod tree_acks;
 
