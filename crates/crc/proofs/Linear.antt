@@ -2,11 +2,11 @@
 use mathlib.Core.Path.{_≡_, refl, sym, _∙_, ap, subst}
 use mathlib.Core.List.{List, [], _∷_, _++_, append-assoc}
 use Prim.Native.Nat.{ℕ, zero, suc, _+_, _-_, _*_, _/_, _%_, _^_, _<_, _≤_}
-use native.Mathlib.Nat.{mul-comm, mul-assoc, zero-mul, one-mul, mul-one, mod-lt, zero-add, suc-add, pow-suc}
+use native.Mathlib.Nat.{mul-comm, mul-assoc, zero-mul, one-mul, mul-one, mod-lt, zero-add, suc-add, add-comm, pow-suc}
 use native.Mathlib.Numerals.{add-one}
 use native.Mathlib.Omega.{arith}
 use lib.Bits.{bitXor, xor-shr, xor-mod, xor-assoc, xor-comm, xor-zero-r, xor-zero-l, xor-self, xor-shifted, xor-lt}
-use lib.Pow.{split, shr-lt, pow-pos}
+use lib.Pow.{split, shr-lt, pow-pos, shr-shr}
 use lib.Dec.{lit<}
 use lib.ListN.{length, getD, drop}
 use lib.Seq.{drop-cons}
@@ -32,7 +32,7 @@ shifted-xor a b =
     let e : bitXor a b / 2 ≡ bitXor (a / 2) (b / 2) = xor-shr a b 1 in
     let m : bitXor a b % 2 ≡ bitXor (a % 2) (b % 2) = xor-mod a b 1 in
     let f : bitXor (a % 2) (b % 2) * polynomial ≡ bitXor (a % 2 * polynomial) (b % 2 * polynomial) =
-        bit-times polynomial (a % 2) (b % 2) (mod-lt a (lit< tt)) (mod-lt b (lit< tt)) in
+    bit-times polynomial (a % 2) (b % 2) (mod-lt a (lit< tt)) (mod-lt b (lit< tt)) in
     ap (λ x. bitXor x (bitXor a b % 2 * polynomial)) e ∙ ap (λ x. bitXor (bitXor (a / 2) (b / 2)) x) (ap (λ x. x * polynomial) m ∙ f)
     ∙ swap-middle (a / 2) (b / 2) (a % 2 * polynomial) (b % 2 * polynomial)
 
@@ -88,8 +88,8 @@ register-low (suc k) c n h =
     let b : n / 2 < 2 ^ k = shr-lt k 1 (subst (λ m. n < 2 ^ m) (sym (add-one k)) h) in
     register-low k (shifted (bitXor c (n % 2))) (n / 2) b
     ∙ ap (after k)
-      (ap (bitXor (shifted (bitXor c (n % 2)))) (sym (shifted-double (n / 2))) ∙ sym (shifted-xor (bitXor c (n % 2)) (n / 2 * 2))
-        ∙ ap shifted (xor-assoc c (n % 2) (n / 2 * 2) ∙ ap (bitXor c) e))
+    (ap (bitXor (shifted (bitXor c (n % 2)))) (sym (shifted-double (n / 2))) ∙ sym (shifted-xor (bitXor c (n % 2)) (n / 2 * 2))
+    ∙ ap shifted (xor-assoc c (n % 2) (n / 2 * 2) ∙ ap (bitXor c) e))
 
 pub register-append : (c : ℕ) (xs ys : List ℕ) → register c (xs ++ ys) ≡ register (register c xs) ys
 unfolding register
@@ -125,3 +125,66 @@ through-end c i bs h = ap (through c) (drop-all i bs h) ∙ through-none c
 pub after-next : (k i c : ℕ) → i < k → after (k - (i + 1)) (shifted c) ≡ after (k - i) c
 unfolding after
 after-next k i c h = let e : k - i ≡ suc (k - (i + 1)) = omega arith in rw e
+
+-- the low byte of eight or more, and the bytes above it, each shifted on its own
+pub after-byte : (k w : ℕ) → after (8 + k) w ≡ bitXor (after (8 + k) (w % 256)) (after k (w / 256))
+after-byte k w =
+    after-add 8 k w ∙ ap (after k) (after-split 8 w) ∙ after-xor k (after 8 (w % 256)) (w / 256)
+    ∙ ap (λ x. bitXor x (after k (w / 256))) (sym (after-add 8 k (w % 256)))
+
+-- the same with what the bytes below came to
+next-byte : (acc k w v : ℕ) → w / 256 ≡ v → bitXor acc (after (8 + k) w) ≡ bitXor (bitXor acc (after (8 + k) (w % 256))) (after k v)
+next-byte acc k w v e =
+    ap (bitXor acc) (after-byte k w) ∙ sym (xor-assoc acc (after (8 + k) (w % 256)) (after k (w / 256)))
+    ∙ ap (λ n. bitXor (bitXor acc (after (8 + k) (w % 256))) (after k n)) e
+
+under : (acc : ℕ) {n m : ℕ} → n ≡ m → bitXor acc (after 8 n) ≡ bitXor acc (after 8 m)
+under acc e = ap (λ n. bitXor acc (after 8 n)) e
+
+pub after-eight : (w : ℕ) → w < 2 ^ 64 → after 64 w ≡
+    bitXor (bitXor (bitXor (bitXor (bitXor (bitXor (bitXor (after 64 (w % 256)) (after 56 (w / 256 % 256))) (after 48 (w / 65536 % 256)))
+    (after 40 (w / 16777216 % 256))) (after 32 (w / 4294967296 % 256))) (after 24 (w / 1099511627776 % 256))) (after 16 (w / 281474976710656 % 256)))
+    (after 8 (w / 72057594037927936 % 256))
+after-eight w h =
+    let top : w / 72057594037927936 ≡ w / 72057594037927936 % 256 = omega arith in
+    after-byte 56 w ∙ next-byte _ 48 (w / 256) (w / 65536) (shr-shr w 8 8) ∙ next-byte _ 40 (w / 65536) (w / 16777216) (shr-shr w 16 8)
+    ∙ next-byte _ 32 (w / 16777216) (w / 4294967296) (shr-shr w 24 8) ∙ next-byte _ 24 (w / 4294967296) (w / 1099511627776) (shr-shr w 32 8)
+    ∙ next-byte _ 16 (w / 1099511627776) (w / 281474976710656) (shr-shr w 40 8)
+    ∙ next-byte _ 8 (w / 281474976710656) (w / 72057594037927936) (shr-shr w 48 8) ∙ under _ top
+
+-- the low byte of the register, with a byte added, shifted; what is above it comes down
+pub after-table : (c b : ℕ) → b < 256 → bitXor (after 8 (bitXor (c % 256) b)) (c / 256) ≡ after 8 (bitXor c b)
+after-table c b h =
+    let m : bitXor c b % 256 ≡ bitXor (c % 256) b = xor-mod c b 8 ∙ ap (bitXor (c % 256)) (omega arith) in
+    let d : bitXor c b / 256 ≡ c / 256 = xor-shr c b 8 ∙ ap (bitXor (c / 256)) (omega arith) ∙ xor-zero-r (c / 256) in
+    sym (after-split 8 (bitXor c b) ∙ ap (λ x. bitXor (after 8 x) (bitXor c b / 256)) m ∙ ap (bitXor (after 8 (bitXor (c % 256) b))) d)
+
+-- the bytes as one number, the first lowest
+abbrev pub joined : List ℕ → ℕ
+joined [] = 0
+joined (b ∷ bs) = b + joined bs * 256
+
+abbrev pub shifts : List ℕ → ℕ
+shifts [] = 0
+shifts (b ∷ bs) = 8 + shifts bs
+
+abbrev pub Bytes : List ℕ → Type 0
+Bytes [] = Unit {0}
+Bytes (b ∷ bs) = (b < 256) × Bytes bs
+
+-- taking in bytes is adding them at once and shifting as often
+pub through-joined : (c : ℕ) (bs : List ℕ) → Bytes bs → through c bs ≡ after (shifts bs) (bitXor c (joined bs))
+unfolding after
+through-joined c [] h = through-none c ∙ sym (xor-zero-r c)
+through-joined c (b ∷ bs) h =
+    let n = joined bs in
+    let e : bitXor (bitXor c b) (n * 256) ≡ bitXor c (b + n * 256) =
+    xor-assoc c b (n * 256) ∙ ap (bitXor c) (xor-comm b (n * 256) ∙ xor-shifted n 8 b (h .0) ∙ add-comm (n * 256) b) in
+    through-more c b bs (h .0) ∙ through-joined (after 8 (bitXor c b)) bs (h .1)
+    ∙ ap (after (shifts bs))
+    (ap (bitXor (after 8 (bitXor c b))) (sym (after-high 8 n)) ∙ sym (after-xor 8 (bitXor c b) (n * 256)) ∙ ap (after 8) e)
+    ∙ sym (after-add 8 (shifts bs) (bitXor c (b + n * 256)))
+
+pub through-append : (c : ℕ) (xs ys : List ℕ) → through c (xs ++ ys) ≡ through (through c xs) ys
+unfolding through
+through-append c xs ys = ap (register c) (bits-append xs ys) ∙ register-append c (bitsOf xs) (bitsOf ys)
