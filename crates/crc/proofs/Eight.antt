@@ -8,8 +8,9 @@ use lib.Bits.{bitXor}
 use lib.ListN.{length, getD, drop, take}
 use lib.Seq.{drop-cons}
 use Rattle.std.proofs.shelf.Lists.{take-rest, getD-drop}
+use Rattle.crc.specs.Burst.{Bytes}
 use Rattle.crc.specs.Crc.{after, through}
-use Rattle.crc.proofs.Linear.{after-eight, through-append, through-joined, joined, shifts, Bytes}
+use Rattle.crc.proofs.Linear.{after-eight, through-append, through-joined, joined, shifts}
 
 -- the shifts of a number's eight bytes, from the list of them
 pub shifted-eight : (w : ℕ) (bs : List ℕ) → w < 2 ^ 64

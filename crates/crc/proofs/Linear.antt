@@ -11,6 +11,7 @@ use lib.Dec.{lit<}
 use lib.ListN.{length, getD, drop}
 use lib.Seq.{drop-cons}
 use Rattle.std.proofs.shelf.Lists.{drop-all}
+use Rattle.crc.specs.Burst.{Bytes}
 use Rattle.crc.specs.Crc.{polynomial, shifted, taken, register, lowBits, bitsOf, after, through, crcOf, crcBits, allOnes}
 
 -- the middle two of four change places
@@ -167,10 +168,6 @@ joined (b ∷ bs) = b + joined bs * 256
 abbrev pub shifts : List ℕ → ℕ
 shifts [] = 0
 shifts (b ∷ bs) = 8 + shifts bs
-
-abbrev pub Bytes : List ℕ → Type 0
-Bytes [] = Unit {0}
-Bytes (b ∷ bs) = (b < 256) × Bytes bs
 
 -- taking in bytes is adding them at once and shifting as often
 pub through-joined : (c : ℕ) (bs : List ℕ) → Bytes bs → through c bs ≡ after (shifts bs) (bitXor c (joined bs))
