@@ -1,0 +1,71 @@
+// Reading bytes one after the other.
+ghost use Prim.Native.Nat.{ℕ, _+_, _<_, _≤_};
+ghost use Rattle.std.specs.Options.{Cases as BySome};
+ghost use Rattle.wire.specs.Bytes.{four, six, two};
+ghost use lib.ListN.{getD, length};
+ghost use mathlib.Core.Path.{_≡_};
+
+// A place in lent bytes, from which the next are read.
+#[derive(Drop)]
+pub(crate) struct Reader<'a> {
+    bytes: &'a [u8],
+    pos: usize,
+}
+
+impl<'a> Reader<'a> {
+    // Reads from the given place on.
+    pub(crate) fn at(bytes: &'a [u8], pos: usize) -> Reader<'a>
+        ensures { λ r. ⌜ now (r .bytes) ≡ now (bytes .entry) ⌝ ∗ ⌜ r .pos ≡ pos ⌝ }
+    {
+        Reader { bytes, pos }
+    }
+
+    // The next byte.
+    pub(crate) fn byte(&mut self) -> Option<u8>
+        ensures same { λ _. ⌜ now (now (self .exit) .bytes) ≡ now (now (self .entry) .bytes) ⌝ }
+        ensures cases { λ r. ⌜ BySome r ((length (now (now (self .entry) .bytes)) ≤ now (self .entry) .pos) × (now (self .exit) .pos ≡ now (self .entry) .pos)) (λ b. (now (self .entry) .pos < length (now (now (self .entry) .bytes))) × (b ≡ getD (now (now (self .entry) .bytes)) (now (self .entry) .pos) 0) × (now (self .exit) .pos ≡ now (self .entry) .pos + 1)) ⌝ }
+    {
+        if self.pos >= self.bytes.len() {
+            return None;
+        }
+        let b = self.bytes[self.pos];
+        self.pos += 1;
+        Some(b)
+    }
+
+    // The number in the next two bytes.
+    pub(crate) fn two(&mut self) -> Option<u16>
+        ensures same { λ _. ⌜ now (now (self .exit) .bytes) ≡ now (now (self .entry) .bytes) ⌝ }
+        ensures cases { λ r. ⌜ BySome r (length (now (now (self .entry) .bytes)) < now (self .entry) .pos + 2) (λ n. (now (self .entry) .pos + 2 ≤ length (now (now (self .entry) .bytes))) × (n ≡ two (now (now (self .entry) .bytes)) (now (self .entry) .pos)) × (now (self .exit) .pos ≡ now (self .entry) .pos + 2)) ⌝ }
+    {
+        let a = self.byte()?;
+        let b = self.byte()?;
+        Some(u16::from_be_bytes([a, b]))
+    }
+
+    // The number in the next four bytes.
+    pub(crate) fn four(&mut self) -> Option<u32>
+        ensures same { λ _. ⌜ now (now (self .exit) .bytes) ≡ now (now (self .entry) .bytes) ⌝ }
+        ensures cases { λ r. ⌜ BySome r (length (now (now (self .entry) .bytes)) < now (self .entry) .pos + 4) (λ n. (now (self .entry) .pos + 4 ≤ length (now (now (self .entry) .bytes))) × (n ≡ four (now (now (self .entry) .bytes)) (now (self .entry) .pos)) × (now (self .exit) .pos ≡ now (self .entry) .pos + 4)) ⌝ }
+    {
+        let a = self.byte()?;
+        let b = self.byte()?;
+        let c = self.byte()?;
+        let d = self.byte()?;
+        Some(u32::from_be_bytes([a, b, c, d]))
+    }
+
+    // The number in the next six bytes.
+    pub(crate) fn six(&mut self) -> Option<u64>
+        ensures same { λ _. ⌜ now (now (self .exit) .bytes) ≡ now (now (self .entry) .bytes) ⌝ }
+        ensures cases { λ r. ⌜ BySome r (length (now (now (self .entry) .bytes)) < now (self .entry) .pos + 6) (λ n. (now (self .entry) .pos + 6 ≤ length (now (now (self .entry) .bytes))) × (n ≡ six (now (now (self .entry) .bytes)) (now (self .entry) .pos)) × (now (self .exit) .pos ≡ now (self .entry) .pos + 6)) ⌝ }
+    {
+        let a = self.byte()?;
+        let b = self.byte()?;
+        let c = self.byte()?;
+        let d = self.byte()?;
+        let e = self.byte()?;
+        let f = self.byte()?;
+        Some(u64::from_be_bytes([0, 0, a, b, c, d, e, f]))
+    }
+}
