@@ -18,3 +18,8 @@ appended before head rest mid message sum after ok t ea em es e =
     ∙ ap (λ x. x ++ inFour (crcOf (head ++ rest))) (append-assoc before head rest)
     ∙ append-assoc before (head ++ rest) (inFour (crcOf (head ++ rest))) in
     subst (λ b. after ≡ cond b (before ++ withSum (head ++ rest)) before) (sym t) (subst (λ b. after ≡ cond b (mid ++ sum) mid) t e ∙ s)
+
+-- the same with the parts as they are defined
+pub carried : (before : List ℕ) (ok : Bool) {head says rest tells after : List ℕ} → head ≡ says → rest ≡ tells
+    → after ≡ cond ok (before ++ withSum (head ++ rest)) before → after ≡ cond ok (before ++ withSum (says ++ tells)) before
+carried before ok p q e = e ∙ (λ i. cond ok (before ++ withSum (p i ++ q i)) before)

@@ -1,3 +1,5 @@
 pub mod Bytes
 pub mod Faults
 pub mod Hellos
+pub mod LinkStates
+pub mod StationFrames

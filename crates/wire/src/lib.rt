@@ -1,8 +1,20 @@
 // Every message in bytes: what goes over a cable, and the settings of a bridge.
+mod count;
 mod fault;
 mod hello;
+mod link_state;
 mod reader;
+// mod settings;
+mod station_frame;
 mod sum;
 
+pub use count::Count;
 pub use fault::Fault;
 pub use hello::Hello;
+pub use link_state::LinkState;
+// pub use settings::MOST_PORTS;
+// pub use settings::Settings;
+pub use station_frame::AtAccess;
+pub use station_frame::StationFrame;
+pub use station_frame::read_at_access;
+pub use station_frame::same_address;

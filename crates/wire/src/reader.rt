@@ -1,9 +1,10 @@
 // Reading bytes one after the other.
-ghost use Prim.Native.Nat.{ℕ, _+_, _<_, _≤_};
+ghost use Prim.Native.Nat.{ℕ, _+_, _<_, _≤_, _^_};
 ghost use Rattle.std.specs.Options.{Cases as BySome};
 ghost use Rattle.wire.specs.Bytes.{four, six, two};
-ghost use lib.ListN.{getD, length};
+ghost use lib.ListN.{drop, getD, length, take};
 ghost use mathlib.Core.Path.{_≡_};
+use crate::Count;
 
 // A place in lent bytes, from which the next are read.
 #[derive(Drop)]
@@ -58,7 +59,7 @@ impl<'a> Reader<'a> {
     // The number in the next six bytes.
     pub(crate) fn six(&mut self) -> Option<u64>
         ensures same { λ _. ⌜ now (now (self .exit) .bytes) ≡ now (now (self .entry) .bytes) ⌝ }
-        ensures cases { λ r. ⌜ BySome r (length (now (now (self .entry) .bytes)) < now (self .entry) .pos + 6) (λ n. (now (self .entry) .pos + 6 ≤ length (now (now (self .entry) .bytes))) × (n ≡ six (now (now (self .entry) .bytes)) (now (self .entry) .pos)) × (now (self .exit) .pos ≡ now (self .entry) .pos + 6)) ⌝ }
+        ensures cases { λ r. ⌜ BySome r (length (now (now (self .entry) .bytes)) < now (self .entry) .pos + 6) (λ n. (now (self .entry) .pos + 6 ≤ length (now (now (self .entry) .bytes))) × (n ≡ six (now (now (self .entry) .bytes)) (now (self .entry) .pos)) × (n < 2 ^ 48) × (now (self .exit) .pos ≡ now (self .entry) .pos + 6)) ⌝ }
     {
         let a = self.byte()?;
         let b = self.byte()?;
@@ -67,5 +68,53 @@ impl<'a> Reader<'a> {
         let e = self.byte()?;
         let f = self.byte()?;
         Some(u64::from_be_bytes([0, 0, a, b, c, d, e, f]))
+    }
+
+    // The count of a link state in the next six bytes.
+    pub(crate) fn count(&mut self) -> Option<Count>
+        ensures same { λ _. ⌜ now (now (self .exit) .bytes) ≡ now (now (self .entry) .bytes) ⌝ }
+        ensures cases { λ r. ⌜ BySome r (length (now (now (self .entry) .bytes)) < now (self .entry) .pos + 6) (λ n. (now (self .entry) .pos + 6 ≤ length (now (now (self .entry) .bytes))) × (n .value ≡ six (now (now (self .entry) .bytes)) (now (self .entry) .pos)) × (now (self .exit) .pos ≡ now (self .entry) .pos + 6)) ⌝ }
+    {
+        let n = self.six()?;
+        Count::new(n)
+    }
+
+    // The next address.
+    pub(crate) fn address(&mut self) -> Option<[u8; 6]>
+        ensures same { λ _. ⌜ now (now (self .exit) .bytes) ≡ now (now (self .entry) .bytes) ⌝ }
+        ensures cases { λ r. ⌜ BySome r (length (now (now (self .entry) .bytes)) < now (self .entry) .pos + 6) (λ a. (now (self .entry) .pos + 6 ≤ length (now (now (self .entry) .bytes))) × (a ≡ take 6 (drop (now (self .entry) .pos) (now (now (self .entry) .bytes)))) × (now (self .exit) .pos ≡ now (self .entry) .pos + 6)) ⌝ }
+    {
+        let part = self.part(6)?;
+        let mut array = [0; 6];
+        array.copy_from_slice(part);
+        Some(array)
+    }
+
+    // The next sixteen bytes as they stand.
+    pub(crate) fn sixteen(&mut self) -> Option<[u8; 16]>
+        ensures same { λ _. ⌜ now (now (self .exit) .bytes) ≡ now (now (self .entry) .bytes) ⌝ }
+        ensures cases { λ r. ⌜ BySome r (length (now (now (self .entry) .bytes)) < now (self .entry) .pos + 16) (λ a. (now (self .entry) .pos + 16 ≤ length (now (now (self .entry) .bytes))) × (a ≡ take 16 (drop (now (self .entry) .pos) (now (now (self .entry) .bytes)))) × (now (self .exit) .pos ≡ now (self .entry) .pos + 16)) ⌝ }
+    {
+        let part = self.part(16)?;
+        let mut array = [0; 16];
+        array.copy_from_slice(part);
+        Some(array)
+    }
+
+    // The next bytes, lent on.
+    pub(crate) fn part(&mut self, count: usize) -> Option<&'a [u8]>
+        ensures same { λ _. ⌜ now (now (self .exit) .bytes) ≡ now (now (self .entry) .bytes) ⌝ }
+        ensures cases { λ r. ⌜ BySome r (length (now (now (self .entry) .bytes)) < now (self .entry) .pos + count) (λ a. (now (self .entry) .pos + count ≤ length (now (now (self .entry) .bytes))) × (length (now a) ≡ count) × (now a ≡ take count (drop (now (self .entry) .pos) (now (now (self .entry) .bytes)))) × (now (self .exit) .pos ≡ now (self .entry) .pos + count)) ⌝ }
+    {
+        if self.pos > self.bytes.len() {
+            return None;
+        }
+        let (_, rest) = self.bytes.split_at(self.pos);
+        if rest.len() < count {
+            return None;
+        }
+        let (part, _) = rest.split_at(count);
+        self.pos += count;
+        Some(part)
     }
 }
