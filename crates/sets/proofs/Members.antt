@@ -5,13 +5,15 @@ use mathlib.Core.Logic.{_⊎_, inl, inr}
 use Prim.Native.Nat.{ℕ, zero, suc, _+_, _-_, _*_, _/_, _%_, _^_, _<_, _≤_}
 use native.Mathlib.Omega.{arith}
 use native.Mathlib.Nat.{zero-div, div-eq-of-lt, div-eq-of-lt-le, pow-le-pow-right, mod-eq-of-lt, pow-suc, two-pow-succ}
-use lib.Dec.{eqb, ltb}
+use native.Mathlib.Bridge.{le-prop}
+use lib.Dec.{eqb}
 use lib.Pow.{ones-split, high, pow-lt, pow-add, shl-shr, shr-shr, ones-lt}
 use lib.Count.{leadingZeros, leading-top, leading-length, leading-of-zero}
 use lib.Bits.{bitAnd, bitOr, bitXor, and-shr, or-shr, xor-shr, and-mod, or-mod, xor-mod, and-mask, xor-add-and}
 use Rattle.std.proofs.shelf.Ways.{tells}
 use Rattle.std.proofs.shelf.Bits.{pow-pos, one-shl}
 use Rattle.std.proofs.shelf.Tests.{cases-lt, cases-order, eq-eqb, ne-eqb, eqb-true, eqb-false}
+use Rattle.sets.specs.declared.bridge_id.BridgeId.{BridgeId}
 use Rattle.sets.specs.Sets.{bit, has, Same-members}
 
 xor : Bool → Bool → Bool
@@ -163,3 +165,11 @@ none-at s k z m e h l =
 
 pub none-before : (s k : ℕ) → s < 2 ^ 128 → k < leadingZeros 128 s → has s k ≡ false
 none-before s k h l = let t = leading-length 128 s h in none-at s k (leadingZeros 128 s) (t .0) (t .1) (t .2) l
+
+-- a bridge is its number
+
+pub same-id : (a b : BridgeId) → a .value ≡ b .value → a ≡ b
+same-id a b e = along (b .value) e (b .ok)
+  where
+    along : (w : ℕ) → a .value ≡ w → (l : w < 128) → a ≡ record { value = w; ok = l }
+    along w p = subst (λ v. (l : v < 128) → a ≡ record { value = v; ok = l }) p (λ l. ap (λ q. record { value = a .value; ok = q }) (le-prop (a .ok) l))

@@ -1,1 +1,4 @@
 pub mod Tree
+pub mod Ids
+pub mod Shapes
+pub mod Meanings

@@ -1,0 +1,19 @@
+// A tree over bridges.
+mod joined;
+
+ghost use mathlib.Core.Path.{_≡_};
+ghost use mathlib.Core.Bool.{true};
+ghost use Rattle.trees.specs.Tree.{looks};
+ghost use Rattle.trees.specs.Ids.{idNumber};
+ghost use Rattle.trees.specs.Shapes.{shaped, Named};
+use crate::TreeId;
+
+// A tree over all bridges, and never anything else: rows that are none are refused when it is made. Lent, since it is large.
+#[derive(Drop)]
+pub struct Tree {
+    id: TreeId,
+    parent: [u8; 128],
+    depth: [u8; 128],
+    ghost named: { Named parent },
+    ghost shape: { looks 128 (shaped (idNumber id) parent depth) ≡ true },
+}
