@@ -6,9 +6,12 @@ use lib.Dec.{eqb, leb}
 use lib.ListN.{length, getD, take}
 use Rattle.crc.specs.Crc.{crcOf}
 
--- the number in two, four or six bytes from a place on
+-- the number in two, three, four or six bytes from a place on
 abbrev pub two : List ℕ → ℕ → ℕ
 two b i = getD b i 0 * 256 + getD b (i + 1) 0
+
+abbrev pub three : List ℕ → ℕ → ℕ
+three b i = getD b i 0 * 65536 + getD b (i + 1) 0 * 256 + getD b (i + 2) 0
 
 abbrev pub four : List ℕ → ℕ → ℕ
 four b i = getD b i 0 * 16777216 + getD b (i + 1) 0 * 65536 + getD b (i + 2) 0 * 256 + getD b (i + 3) 0
@@ -19,6 +22,9 @@ six b i = two b i * 4294967296 + four b (i + 2)
 -- the bytes of a number
 abbrev pub inTwo : ℕ → List ℕ
 inTwo n = (n / 256 % 256) ∷ (n % 256) ∷ []
+
+abbrev pub inThree : ℕ → List ℕ
+inThree n = (n / 65536 % 256) ∷ (n / 256 % 256) ∷ (n % 256) ∷ []
 
 abbrev pub inFour : ℕ → List ℕ
 inFour n = (n / 16777216 % 256) ∷ (n / 65536 % 256) ∷ (n / 256 % 256) ∷ (n % 256) ∷ []

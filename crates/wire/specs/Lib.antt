@@ -3,3 +3,7 @@ pub mod Faults
 pub mod Hellos
 pub mod LinkStates
 pub mod StationFrames
+pub mod TreeIds
+pub mod ForwardedFrames
+pub mod Acks
+pub mod TreeBytes

@@ -1,10 +1,15 @@
 // Reading bytes one after the other.
 ghost use Prim.Native.Nat.{ℕ, _+_, _<_, _≤_, _^_};
 ghost use Rattle.std.specs.Options.{Cases as BySome};
-ghost use Rattle.wire.specs.Bytes.{four, six, two};
+ghost use Rattle.std.specs.Results.{Cases as ByOk};
+ghost use Rattle.wire.specs.Bytes.{four, six, three, two};
+ghost use Rattle.wire.specs.TreeIds.{TreeIdSays};
 ghost use lib.ListN.{drop, getD, length, take};
 ghost use mathlib.Core.Path.{_≡_};
 use crate::Count;
+use crate::Fault;
+use sets::BridgeId;
+use trees::TreeId;
 
 // A place in lent bytes, from which the next are read.
 #[derive(Drop)]
@@ -116,5 +121,53 @@ impl<'a> Reader<'a> {
         let (part, _) = rest.split_at(count);
         self.pos += count;
         Some(part)
+    }
+
+    // The number of a bridge in the next byte.
+    pub(crate) fn bridge(&mut self) -> Result<BridgeId, Fault>
+        ensures same { λ _. ⌜ now (now (self .exit) .bytes) ≡ now (now (self .entry) .bytes) ⌝ }
+        ensures cases { λ r. ⌜ ByOk r (λ b. (now (self .entry) .pos + 1 ≤ length (now (now (self .entry) .bytes))) × (getD (now (now (self .entry) .bytes)) (now (self .entry) .pos) 0 < 128) × (b .value ≡ getD (now (now (self .entry) .bytes)) (now (self .entry) .pos) 0) × (now (self .exit) .pos ≡ now (self .entry) .pos + 1)) (λ e. (now (self .entry) .pos + 1 ≤ length (now (now (self .entry) .bytes)) → (128 ≤ getD (now (now (self .entry) .bytes)) (now (self .entry) .pos) 0) × (e ≡ Fault.NotThere)) × (length (now (now (self .entry) .bytes)) < now (self .entry) .pos + 1 → e ≡ Fault.Malformed)) ⌝ }
+    {
+        let Some(value) = self.byte() else {
+            return Err(Fault::Malformed);
+        };
+        let Some(bridge) = BridgeId::new(value) else {
+            return Err(Fault::NotThere);
+        };
+        Ok(bridge)
+    }
+
+    // The number in the next three bytes.
+    pub(crate) fn three(&mut self) -> Option<u32>
+        ensures same { λ _. ⌜ now (now (self .exit) .bytes) ≡ now (now (self .entry) .bytes) ⌝ }
+        ensures cases { λ r. ⌜ BySome r (length (now (now (self .entry) .bytes)) < now (self .entry) .pos + 3) (λ n. (now (self .entry) .pos + 3 ≤ length (now (now (self .entry) .bytes))) × (n ≡ three (now (now (self .entry) .bytes)) (now (self .entry) .pos)) × (n < 2 ^ 24) × (now (self .exit) .pos ≡ now (self .entry) .pos + 3)) ⌝ }
+    {
+        let a = self.byte()?;
+        let b = self.byte()?;
+        let c = self.byte()?;
+        Some(u32::from_be_bytes([0, a, b, c]))
+    }
+
+    // The number of a tree in the next eight bytes.
+    pub(crate) fn tree_id(&mut self) -> Result<TreeId, Fault>
+        ensures same { λ _. ⌜ now (now (self .exit) .bytes) ≡ now (now (self .entry) .bytes) ⌝ }
+        ensures cases { λ r. ⌜ ByOk r (λ t. (now (self .entry) .pos + 8 ≤ length (now (now (self .entry) .bytes))) × (getD (now (now (self .entry) .bytes)) (now (self .entry) .pos + 4) 0 < 128) × TreeIdSays (now (now (self .entry) .bytes)) (now (self .entry) .pos) t × (now (self .exit) .pos ≡ now (self .entry) .pos + 8)) (λ e. (now (self .entry) .pos + 8 ≤ length (now (now (self .entry) .bytes)) → (128 ≤ getD (now (now (self .entry) .bytes)) (now (self .entry) .pos + 4) 0) × (e ≡ Fault.NotThere)) × (length (now (now (self .entry) .bytes)) < now (self .entry) .pos + 8 → e ≡ Fault.Malformed)) ⌝ }
+    {
+        let Some(seq) = self.four() else {
+            return Err(Fault::Malformed);
+        };
+        let Some(announcer) = self.byte() else {
+            return Err(Fault::Malformed);
+        };
+        let Some(nonce) = self.three() else {
+            return Err(Fault::Malformed);
+        };
+        let Some(announcer) = BridgeId::new(announcer) else {
+            return Err(Fault::NotThere);
+        };
+        let Some(id) = TreeId::new(seq, announcer, nonce) else {
+            return Err(Fault::NotThere);
+        };
+        Ok(id)
     }
 }

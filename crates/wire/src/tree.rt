@@ -1,0 +1,53 @@
+// Trees: each bridge's parent and depth, under the tree's number.
+ghost use Prim.Native.Nat.{ℕ, _+_, _*_, _<_, _≤_};
+ghost use Rattle.std.specs.Of.Vec.{vec-items};
+ghost use Rattle.std.specs.Results.{isOk};
+ghost use Rattle.wire.specs.TreeBytes.{DecodesTree, faultOf, row, treeBytes};
+ghost use lib.ListN.{length};
+ghost use mathlib.Core.Bool.{cond};
+ghost use mathlib.Core.List.{_++_};
+ghost use mathlib.Core.Path.{_≡_};
+use crate::Fault;
+use crate::reader::Reader;
+use crate::sum::is_whole;
+use trees::Tree;
+use trees::TreeFault;
+
+// The tree that the bytes say, if they are one.
+pub fn decode_tree(bytes: &[u8]) -> Result<Tree, Fault>
+    ensures { λ r. ⌜ DecodesTree (now (bytes .entry)) r ⌝ }
+{
+    if !is_whole(bytes, 4, 269) {
+        return Err(Fault::Malformed);
+    }
+    let mut reader = Reader::at(bytes, 1);
+    let Ok(id) = reader.tree_id() else {
+        return Err(Fault::NotThere);
+    };
+    match Tree::new(id, read_row(bytes, 9), read_row(bytes, 10)) {
+        Ok(tree) => Ok(tree),
+        Err(fault) => Err(fault_of(fault)),
+    }
+}
+
+// The fault of a message whose tree is refused.
+fn fault_of(fault: TreeFault) -> Fault
+    ensures { λ r. ⌜ r ≡ faultOf fault ⌝ }
+{
+    match fault {
+        TreeFault::NoSuchBridge => Fault::NotThere,
+        TreeFault::NotATree => Fault::NotATree,
+    }
+}
+
+// Every second byte from a place on: the parents, or the depths.
+fn read_row(bytes: &[u8], place: usize) -> [u8; 128]
+    requires { ⌜ place + 255 ≤ length (now bytes) ⌝ }
+    ensures { λ r. ⌜ r ≡ row (now (bytes .entry)) place 128 ⌝ }
+{
+    let mut cells = [0; 128];
+    for k in 0..128usize {
+        cells[k] = bytes[place + 2 * k];
+    }
+    cells
+}
