@@ -12,6 +12,7 @@ use Rattle.std.specs.Results.{Cases}
 use Rattle.trees.specs.Tree.{allBelow, looks}
 use Rattle.trees.specs.Shapes.{shaped}
 use Rattle.trees.specs.declared.spanning_tree.Tree.{Tree}
+use Rattle.trees.specs.declared.tree_id.TreeId.{TreeId}
 use Rattle.trees.specs.declared.shape.TreeFault.{TreeFault}
 use Rattle.trees.specs.declared.shape.TreeFault.the-variants.{NoSuchBridge}
 use Rattle.trees.specs.declared.shape.TreeFault.the-variants as trees
@@ -57,11 +58,13 @@ pub record TreeSays (b : List ℕ) (t : Tree) : Type 0 where
 abbrev pub DecodesTree : List ℕ → Result Tree Fault → Type 0
 DecodesTree b r = Cases r (λ t. (treeFault b ≡ None) × TreeSays b t) (λ e. treeFault b ≡ Some e)
 
--- one of each in turn
-unfoldable pub paired : List ℕ → List ℕ → List ℕ
-paired [] ds = []
-paired (p ∷ ps) [] = []
-paired (p ∷ ps) (d ∷ ds) = p ∷ (d ∷ paired ps ds)
+-- the parent and the depth of each of n bridges, from bridge k on
+unfoldable pub paired : List ℕ → List ℕ → ℕ → ℕ → List ℕ
+paired ps ds k zero = []
+paired ps ds k (suc n) = getD ps k 0 ∷ (getD ds k 0 ∷ paired ps ds (suc k) n)
+
+abbrev pub treeHead : TreeId → List ℕ
+treeHead i = 4 ∷ treeIdBytes i
 
 abbrev pub treeBytes : Tree → List ℕ
-treeBytes t = withSum ((4 ∷ treeIdBytes (t .id)) ++ paired (t .parent) (t .depth))
+treeBytes t = withSum (treeHead (t .id) ++ paired (t .parent) (t .depth) 0 128)

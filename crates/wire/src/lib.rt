@@ -27,3 +27,4 @@ pub use station_frame::StationFrame;
 pub use station_frame::read_at_access;
 pub use station_frame::same_address;
 pub use tree::decode_tree;
+pub use tree::encode_tree;
