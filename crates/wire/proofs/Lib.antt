@@ -1,3 +1,4 @@
 pub mod Appended
 pub mod Rows
 pub mod Grown
+pub mod Others

@@ -7,3 +7,4 @@ pub mod TreeIds
 pub mod ForwardedFrames
 pub mod Acks
 pub mod TreeBytes
+pub mod Messages
