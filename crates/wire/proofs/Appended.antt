@@ -23,3 +23,14 @@ appended before head rest mid message sum after ok t ea em es e =
 pub carried : (before : List ℕ) (ok : Bool) {head says rest tells after : List ℕ} → head ≡ says → rest ≡ tells
     → after ≡ cond ok (before ++ withSum (head ++ rest)) before → after ≡ cond ok (before ++ withSum (says ++ tells)) before
 carried before ok p q e = e ∙ (λ i. cond ok (before ++ withSum (p i ++ q i)) before)
+
+-- two parts and no sum
+pub put-two : (before head rest mid after : List ℕ) (ok : Bool) → ok ≡ true → mid ≡ before ++ head → after ≡ cond ok (mid ++ rest) mid
+    → after ≡ cond ok (before ++ (head ++ rest)) before
+put-two before head rest mid after ok t em e =
+    subst (λ b. after ≡ cond b (before ++ (head ++ rest)) before) (sym t)
+    (subst (λ b. after ≡ cond b (mid ++ rest) mid) t e ∙ ap (λ x. x ++ rest) em ∙ append-assoc before head rest)
+
+pub carried-two : (before : List ℕ) (ok : Bool) {head says rest tells after : List ℕ} → head ≡ says → rest ≡ tells
+    → after ≡ cond ok (before ++ (head ++ rest)) before → after ≡ cond ok (before ++ (says ++ tells)) before
+carried-two before ok p q e = e ∙ (λ i. cond ok (before ++ (p i ++ q i)) before)

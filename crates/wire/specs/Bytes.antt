@@ -1,7 +1,7 @@
 -- Numbers in bytes, high byte first, and the sum at the end of a message.
 use mathlib.Core.List.{List, [], _∷_, _++_}
 use mathlib.Core.Bool.{Bool, _&&_}
-use Prim.Native.Nat.{ℕ, _+_, _-_, _*_, _/_, _%_}
+use Prim.Native.Nat.{ℕ, zero, suc, _+_, _-_, _*_, _/_, _%_}
 use lib.Dec.{eqb, leb}
 use lib.ListN.{length, getD, take}
 use Rattle.crc.specs.Crc.{crcOf}
@@ -31,6 +31,11 @@ inFour n = (n / 16777216 % 256) ∷ (n / 65536 % 256) ∷ (n / 256 % 256) ∷ (n
 
 abbrev pub inSix : ℕ → List ℕ
 inSix n = (n / 1099511627776 % 256) ∷ (n / 4294967296 % 256) ∷ inFour n
+
+-- two bytes for each of n places, from place k on
+unfoldable pub pairsOf : (ℕ → ℕ) → (ℕ → ℕ) → ℕ → ℕ → List ℕ
+pairsOf f g k zero = []
+pairsOf f g k (suc n) = f k ∷ (g k ∷ pairsOf f g (suc k) n)
 
 -- the bytes end with the CRC-32 of those before it
 abbrev pub summed : List ℕ → Bool

@@ -8,3 +8,4 @@ pub mod ForwardedFrames
 pub mod Acks
 pub mod TreeBytes
 pub mod Messages
+pub mod SettingsBytes

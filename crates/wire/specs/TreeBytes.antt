@@ -18,7 +18,7 @@ use Rattle.trees.specs.declared.shape.TreeFault.the-variants.{NoSuchBridge}
 use Rattle.trees.specs.declared.shape.TreeFault.the-variants as trees
 use Rattle.wire.specs.declared.fault.Fault.{Fault}
 use Rattle.wire.specs.declared.fault.Fault.the-variants.{Malformed, NotThere, NotATree}
-use Rattle.wire.specs.Bytes.{three, four, whole, withSum}
+use Rattle.wire.specs.Bytes.{three, four, pairsOf, whole, withSum}
 use Rattle.wire.specs.TreeIds.{TreeIdSays, treeIdBytes}
 
 -- every second byte from a place on, n of them
@@ -58,13 +58,12 @@ pub record TreeSays (b : List ℕ) (t : Tree) : Type 0 where
 abbrev pub DecodesTree : List ℕ → Result Tree Fault → Type 0
 DecodesTree b r = Cases r (λ t. (treeFault b ≡ None) × TreeSays b t) (λ e. treeFault b ≡ Some e)
 
--- the parent and the depth of each of n bridges, from bridge k on
-unfoldable pub paired : List ℕ → List ℕ → ℕ → ℕ → List ℕ
-paired ps ds k zero = []
-paired ps ds k (suc n) = getD ps k 0 ∷ (getD ds k 0 ∷ paired ps ds (suc k) n)
+-- the parent and the depth of each bridge
+abbrev pub paired : List ℕ → List ℕ → List ℕ
+paired ps ds = pairsOf (λ k. getD ps k 0) (λ k. getD ds k 0) 0 128
 
 abbrev pub treeHead : TreeId → List ℕ
 treeHead i = 4 ∷ treeIdBytes i
 
 abbrev pub treeBytes : Tree → List ℕ
-treeBytes t = withSum (treeHead (t .id) ++ paired (t .parent) (t .depth) 0 128)
+treeBytes t = withSum (treeHead (t .id) ++ paired (t .parent) (t .depth))

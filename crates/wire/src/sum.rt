@@ -50,3 +50,12 @@ pub(crate) fn append_summed(out: &mut Vec<u8>, head: &[u8], rest: &[u8]) -> Resu
     let sum = checksum(message);
     out.extend_from_slice(&sum.to_be_bytes())
 }
+
+// Appends two parts, or nothing where there is no room.
+pub(crate) fn append(out: &mut Vec<u8>, head: &[u8], rest: &[u8]) -> Result<(), AllocError>
+    ensures { λ r. ⌜ vec-items (now (out .exit)) ≡ cond (isOk r) (vec-items (now (out .entry)) ++ (now (head .entry) ++ now (rest .entry))) (vec-items (now (out .entry))) ⌝ }
+{
+    out.reserve(head.len().saturating_add(rest.len()))?;
+    out.extend_from_slice(head)?;
+    out.extend_from_slice(rest)
+}

@@ -74,7 +74,7 @@ fn head(id: TreeId) -> [u8; 9]
 
 // Each bridge's parent and depth.
 fn pairs(tree: &Tree) -> [u8; 256]
-    ensures { λ r. ⌜ r ≡ paired (now (tree .entry) .parent) (now (tree .entry) .depth) 0 128 ⌝ }
+    ensures { λ r. ⌜ r ≡ paired (now (tree .entry) .parent) (now (tree .entry) .depth) ⌝ }
 {
     let mut cells = [0; 256];
     for k in 0..128u8 {
