@@ -37,7 +37,7 @@ DecodesHeader b r = Cases r (λ h. (headerFault b ≡ None) × HeaderSays b h) (
 abbrev pub frameIn : List ℕ → List ℕ
 frameIn b = take (length b - 17) (drop 13 b)
 
-abbrev orElse : Option Fault → Option Fault → Option Fault
+abbrev pub orElse : Option Fault → Option Fault → Option Fault
 orElse None f = f
 orElse (Some e) f = Some e
 

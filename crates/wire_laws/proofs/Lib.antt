@@ -1,0 +1,9 @@
+mod Numbers
+mod Whole
+mod Hellos
+mod LinkStates
+mod TreeNumbers
+mod Acks
+mod Frames
+mod Trees
+mod SettingsBack
