@@ -7,3 +7,4 @@ mod Acks
 mod Frames
 mod Trees
 mod SettingsBack
+mod Damaged
