@@ -1,11 +1,3 @@
 pub mod Bytes
 pub mod Faults
-pub mod Hellos
-pub mod LinkStates
-pub mod StationFrames
 pub mod TreeIds
-pub mod ForwardedFrames
-pub mod Acks
-pub mod TreeBytes
-pub mod Messages
-pub mod SettingsBytes

@@ -1,32 +1,18 @@
-// Every message in bytes: what goes over a cable, and the settings of a bridge.
-mod ack;
+// Reading and writing bytes: numbers high byte first, and the sum at the end of every message between bridges.
 mod count;
 mod fault;
-mod forwarded;
-mod hello;
-mod link_state;
-mod message;
 mod reader;
-mod settings;
-mod station_frame;
 mod sum;
-mod tree;
 mod tree_id;
 
-pub use ack::Ack;
-pub use ack::Acked;
 pub use count::Count;
 pub use fault::Fault;
-pub use forwarded::Header;
-pub use forwarded::inner_frame;
-pub use hello::Hello;
-pub use link_state::LinkState;
-pub use message::Message;
-pub use settings::MOST_PORTS;
-pub use settings::Settings;
-pub use station_frame::AtAccess;
-pub use station_frame::StationFrame;
-pub use station_frame::read_at_access;
-pub use station_frame::same_address;
-pub use tree::decode_tree;
-pub use tree::encode_tree;
+pub use fault::FaultDebug;
+pub use fault::FaultPartialEq;
+pub use reader::Reader;
+pub use sum::append;
+pub use sum::append_summed;
+pub use sum::is_summed;
+pub use sum::is_whole;
+pub use sum::kind_of;
+pub use tree_id::tree_id_bytes;

@@ -13,21 +13,21 @@ use trees::TreeId;
 
 // A place in lent bytes, from which the next are read.
 #[derive(Drop)]
-pub(crate) struct Reader<'a> {
+pub struct Reader<'a> {
     bytes: &'a [u8],
     pos: usize,
 }
 
 impl<'a> Reader<'a> {
     // Reads from the given place on.
-    pub(crate) fn at(bytes: &'a [u8], pos: usize) -> Reader<'a>
+    pub fn at(bytes: &'a [u8], pos: usize) -> Reader<'a>
         ensures { λ r. ⌜ now (r .bytes) ≡ now (bytes .entry) ⌝ ∗ ⌜ r .pos ≡ pos ⌝ }
     {
         Reader { bytes, pos }
     }
 
     // The next byte.
-    pub(crate) fn byte(&mut self) -> Option<u8>
+    pub fn byte(&mut self) -> Option<u8>
         ensures same { λ _. ⌜ now (now (self .exit) .bytes) ≡ now (now (self .entry) .bytes) ⌝ }
         ensures cases { λ r. ⌜ BySome r ((length (now (now (self .entry) .bytes)) ≤ now (self .entry) .pos) × (now (self .exit) .pos ≡ now (self .entry) .pos)) (λ b. (now (self .entry) .pos < length (now (now (self .entry) .bytes))) × (b ≡ getD (now (now (self .entry) .bytes)) (now (self .entry) .pos) 0) × (now (self .exit) .pos ≡ now (self .entry) .pos + 1)) ⌝ }
     {
@@ -40,7 +40,7 @@ impl<'a> Reader<'a> {
     }
 
     // The number in the next two bytes.
-    pub(crate) fn two(&mut self) -> Option<u16>
+    pub fn two(&mut self) -> Option<u16>
         ensures same { λ _. ⌜ now (now (self .exit) .bytes) ≡ now (now (self .entry) .bytes) ⌝ }
         ensures cases { λ r. ⌜ BySome r (length (now (now (self .entry) .bytes)) < now (self .entry) .pos + 2) (λ n. (now (self .entry) .pos + 2 ≤ length (now (now (self .entry) .bytes))) × (n ≡ two (now (now (self .entry) .bytes)) (now (self .entry) .pos)) × (now (self .exit) .pos ≡ now (self .entry) .pos + 2)) ⌝ }
     {
@@ -50,7 +50,7 @@ impl<'a> Reader<'a> {
     }
 
     // The number in the next four bytes.
-    pub(crate) fn four(&mut self) -> Option<u32>
+    pub fn four(&mut self) -> Option<u32>
         ensures same { λ _. ⌜ now (now (self .exit) .bytes) ≡ now (now (self .entry) .bytes) ⌝ }
         ensures cases { λ r. ⌜ BySome r (length (now (now (self .entry) .bytes)) < now (self .entry) .pos + 4) (λ n. (now (self .entry) .pos + 4 ≤ length (now (now (self .entry) .bytes))) × (n ≡ four (now (now (self .entry) .bytes)) (now (self .entry) .pos)) × (now (self .exit) .pos ≡ now (self .entry) .pos + 4)) ⌝ }
     {
@@ -62,7 +62,7 @@ impl<'a> Reader<'a> {
     }
 
     // The number in the next six bytes.
-    pub(crate) fn six(&mut self) -> Option<u64>
+    pub fn six(&mut self) -> Option<u64>
         ensures same { λ _. ⌜ now (now (self .exit) .bytes) ≡ now (now (self .entry) .bytes) ⌝ }
         ensures cases { λ r. ⌜ BySome r (length (now (now (self .entry) .bytes)) < now (self .entry) .pos + 6) (λ n. (now (self .entry) .pos + 6 ≤ length (now (now (self .entry) .bytes))) × (n ≡ six (now (now (self .entry) .bytes)) (now (self .entry) .pos)) × (n < 2 ^ 48) × (now (self .exit) .pos ≡ now (self .entry) .pos + 6)) ⌝ }
     {
@@ -76,7 +76,7 @@ impl<'a> Reader<'a> {
     }
 
     // The count of a link state in the next six bytes.
-    pub(crate) fn count(&mut self) -> Option<Count>
+    pub fn count(&mut self) -> Option<Count>
         ensures same { λ _. ⌜ now (now (self .exit) .bytes) ≡ now (now (self .entry) .bytes) ⌝ }
         ensures cases { λ r. ⌜ BySome r (length (now (now (self .entry) .bytes)) < now (self .entry) .pos + 6) (λ n. (now (self .entry) .pos + 6 ≤ length (now (now (self .entry) .bytes))) × (n .value ≡ six (now (now (self .entry) .bytes)) (now (self .entry) .pos)) × (now (self .exit) .pos ≡ now (self .entry) .pos + 6)) ⌝ }
     {
@@ -85,7 +85,7 @@ impl<'a> Reader<'a> {
     }
 
     // The next address.
-    pub(crate) fn address(&mut self) -> Option<[u8; 6]>
+    pub fn address(&mut self) -> Option<[u8; 6]>
         ensures same { λ _. ⌜ now (now (self .exit) .bytes) ≡ now (now (self .entry) .bytes) ⌝ }
         ensures cases { λ r. ⌜ BySome r (length (now (now (self .entry) .bytes)) < now (self .entry) .pos + 6) (λ a. (now (self .entry) .pos + 6 ≤ length (now (now (self .entry) .bytes))) × (a ≡ take 6 (drop (now (self .entry) .pos) (now (now (self .entry) .bytes)))) × (now (self .exit) .pos ≡ now (self .entry) .pos + 6)) ⌝ }
     {
@@ -96,7 +96,7 @@ impl<'a> Reader<'a> {
     }
 
     // The next sixteen bytes as they stand.
-    pub(crate) fn sixteen(&mut self) -> Option<[u8; 16]>
+    pub fn sixteen(&mut self) -> Option<[u8; 16]>
         ensures same { λ _. ⌜ now (now (self .exit) .bytes) ≡ now (now (self .entry) .bytes) ⌝ }
         ensures cases { λ r. ⌜ BySome r (length (now (now (self .entry) .bytes)) < now (self .entry) .pos + 16) (λ a. (now (self .entry) .pos + 16 ≤ length (now (now (self .entry) .bytes))) × (a ≡ take 16 (drop (now (self .entry) .pos) (now (now (self .entry) .bytes)))) × (now (self .exit) .pos ≡ now (self .entry) .pos + 16)) ⌝ }
     {
@@ -107,7 +107,7 @@ impl<'a> Reader<'a> {
     }
 
     // The next bytes, lent on.
-    pub(crate) fn part(&mut self, count: usize) -> Option<&'a [u8]>
+    pub fn part(&mut self, count: usize) -> Option<&'a [u8]>
         ensures same { λ _. ⌜ now (now (self .exit) .bytes) ≡ now (now (self .entry) .bytes) ⌝ }
         ensures cases { λ r. ⌜ BySome r (length (now (now (self .entry) .bytes)) < now (self .entry) .pos + count) (λ a. (now (self .entry) .pos + count ≤ length (now (now (self .entry) .bytes))) × (length (now a) ≡ count) × (now a ≡ take count (drop (now (self .entry) .pos) (now (now (self .entry) .bytes)))) × (now (self .exit) .pos ≡ now (self .entry) .pos + count)) ⌝ }
     {
@@ -124,7 +124,7 @@ impl<'a> Reader<'a> {
     }
 
     // The number of a bridge in the next byte.
-    pub(crate) fn bridge(&mut self) -> Result<BridgeId, Fault>
+    pub fn bridge(&mut self) -> Result<BridgeId, Fault>
         ensures same { λ _. ⌜ now (now (self .exit) .bytes) ≡ now (now (self .entry) .bytes) ⌝ }
         ensures cases { λ r. ⌜ ByOk r (λ b. (now (self .entry) .pos + 1 ≤ length (now (now (self .entry) .bytes))) × (getD (now (now (self .entry) .bytes)) (now (self .entry) .pos) 0 < 128) × (b .value ≡ getD (now (now (self .entry) .bytes)) (now (self .entry) .pos) 0) × (now (self .exit) .pos ≡ now (self .entry) .pos + 1)) (λ e. (now (self .entry) .pos + 1 ≤ length (now (now (self .entry) .bytes)) → (128 ≤ getD (now (now (self .entry) .bytes)) (now (self .entry) .pos) 0) × (e ≡ Fault.NotThere)) × (length (now (now (self .entry) .bytes)) < now (self .entry) .pos + 1 → e ≡ Fault.Malformed)) ⌝ }
     {
@@ -138,7 +138,7 @@ impl<'a> Reader<'a> {
     }
 
     // The number in the next three bytes.
-    pub(crate) fn three(&mut self) -> Option<u32>
+    pub fn three(&mut self) -> Option<u32>
         ensures same { λ _. ⌜ now (now (self .exit) .bytes) ≡ now (now (self .entry) .bytes) ⌝ }
         ensures cases { λ r. ⌜ BySome r (length (now (now (self .entry) .bytes)) < now (self .entry) .pos + 3) (λ n. (now (self .entry) .pos + 3 ≤ length (now (now (self .entry) .bytes))) × (n ≡ three (now (now (self .entry) .bytes)) (now (self .entry) .pos)) × (n < 2 ^ 24) × (now (self .exit) .pos ≡ now (self .entry) .pos + 3)) ⌝ }
     {
@@ -149,7 +149,7 @@ impl<'a> Reader<'a> {
     }
 
     // The number of a tree in the next eight bytes.
-    pub(crate) fn tree_id(&mut self) -> Result<TreeId, Fault>
+    pub fn tree_id(&mut self) -> Result<TreeId, Fault>
         ensures same { λ _. ⌜ now (now (self .exit) .bytes) ≡ now (now (self .entry) .bytes) ⌝ }
         ensures cases { λ r. ⌜ ByOk r (λ t. (now (self .entry) .pos + 8 ≤ length (now (now (self .entry) .bytes))) × (getD (now (now (self .entry) .bytes)) (now (self .entry) .pos + 4) 0 < 128) × TreeIdSays (now (now (self .entry) .bytes)) (now (self .entry) .pos) t × (now (self .exit) .pos ≡ now (self .entry) .pos + 8)) (λ e. (now (self .entry) .pos + 8 ≤ length (now (now (self .entry) .bytes)) → (128 ≤ getD (now (now (self .entry) .bytes)) (now (self .entry) .pos + 4) 0) × (e ≡ Fault.NotThere)) × (length (now (now (self .entry) .bytes)) < now (self .entry) .pos + 8 → e ≡ Fault.Malformed)) ⌝ }
     {

@@ -11,7 +11,7 @@ use crc::checksum;
 use std::alloc::AllocError;
 
 // Do the bytes end with the sum of those before it?
-pub(crate) fn is_summed(bytes: &[u8]) -> bool
+pub fn is_summed(bytes: &[u8]) -> bool
     ensures { λ r. ⌜ r ≡ summed (now (bytes .entry)) ⌝ }
 {
     if bytes.len() < 4 {
@@ -25,21 +25,21 @@ pub(crate) fn is_summed(bytes: &[u8]) -> bool
 }
 
 // Are the bytes whole, a message of this kind and length with its sum?
-pub(crate) fn is_whole(bytes: &[u8], kind: u8, length: usize) -> bool
+pub fn is_whole(bytes: &[u8], kind: u8, length: usize) -> bool
     ensures { λ r. ⌜ r ≡ whole kind length (now (bytes .entry)) ⌝ }
 {
     bytes.len() == length && kind_of(bytes) == kind && is_summed(bytes)
 }
 
 // The kind of a message: its first byte, or 0, which is no kind.
-pub(crate) fn kind_of(bytes: &[u8]) -> u8
+pub fn kind_of(bytes: &[u8]) -> u8
     ensures { λ r. ⌜ r ≡ getD (now (bytes .entry)) 0 0 ⌝ }
 {
     if bytes.len() > 0 { bytes[0] } else { 0 }
 }
 
 // Appends a message of two parts with its sum, or nothing where there is no room.
-pub(crate) fn append_summed(out: &mut Vec<u8>, head: &[u8], rest: &[u8]) -> Result<(), AllocError>
+pub fn append_summed(out: &mut Vec<u8>, head: &[u8], rest: &[u8]) -> Result<(), AllocError>
     ensures { λ r. ⌜ vec-items (now (out .exit)) ≡ cond (isOk r) (vec-items (now (out .entry)) ++ withSum (now (head .entry) ++ now (rest .entry))) (vec-items (now (out .entry))) ⌝ }
 {
     let start = out.len();
@@ -52,7 +52,7 @@ pub(crate) fn append_summed(out: &mut Vec<u8>, head: &[u8], rest: &[u8]) -> Resu
 }
 
 // Appends two parts, or nothing where there is no room.
-pub(crate) fn append(out: &mut Vec<u8>, head: &[u8], rest: &[u8]) -> Result<(), AllocError>
+pub fn append(out: &mut Vec<u8>, head: &[u8], rest: &[u8]) -> Result<(), AllocError>
     ensures { λ r. ⌜ vec-items (now (out .exit)) ≡ cond (isOk r) (vec-items (now (out .entry)) ++ (now (head .entry) ++ now (rest .entry))) (vec-items (now (out .entry))) ⌝ }
 {
     out.reserve(head.len().saturating_add(rest.len()))?;

@@ -4,7 +4,7 @@ ghost use mathlib.Core.Path.{_≡_};
 use trees::TreeId;
 
 // The eight bytes of a tree's number.
-pub(crate) fn tree_id_bytes(id: TreeId) -> [u8; 8]
+pub fn tree_id_bytes(id: TreeId) -> [u8; 8]
     ensures { λ r. ⌜ r ≡ treeIdBytes id ⌝ }
 {
     let [a, b, c, d] = id.seq().to_be_bytes();

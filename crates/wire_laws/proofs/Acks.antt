@@ -14,12 +14,12 @@ use Rattle.sets.proofs.Members.{same-id}
 use Rattle.wire.specs.declared.fault.Fault.{Fault}
 use Rattle.wire.specs.declared.fault.Fault.the-variants.{Malformed, NotThere}
 use Rattle.trees.specs.declared.tree_id.TreeId.{TreeId}
-use Rattle.wire.specs.declared.ack.Ack.{Ack}
-use Rattle.wire.specs.declared.ack.Acked.{Acked}
-use Rattle.wire.specs.declared.ack.Acked.the-variants as acked
+use Rattle.messages.specs.declared.ack.Ack.{Ack}
+use Rattle.messages.specs.declared.ack.Acked.{Acked}
+use Rattle.messages.specs.declared.ack.Acked.the-variants as acked
 use Rattle.wire.specs.Bytes.{three, four, six, inFour, inSix, whole, withSum}
 use Rattle.wire.specs.TreeIds.{TreeIdSays, treeIdBytes}
-use Rattle.wire.specs.Acks.{ackKind, ackFault, linkStateAckFault, treeAckFault, AckSays, AckedSays, ackHead, ackedLinkState, ackBytes}
+use Rattle.messages.specs.Acks.{ackKind, ackFault, linkStateAckFault, treeAckFault, AckSays, AckedSays, ackHead, ackedLinkState, ackBytes}
 use Rattle.wire_laws.specs.RoundTrips.{RoundTrip, AckFits, AckedFits}
 use Rattle.wire_laws.proofs.LinkStates.{same-count}
 use Rattle.wire_laws.proofs.Numbers.{three-back, four-back, six-back, in-four-at, in-six-at, front}

@@ -18,14 +18,14 @@ use Rattle.crc.proofs.Windows.{burst-told}
 use Rattle.wire.specs.declared.fault.Fault.{Fault}
 use Rattle.wire.specs.declared.fault.Fault.the-variants.{Malformed, NotThere}
 use Rattle.wire.specs.Bytes.{four, summed, whole, withSum}
-use Rattle.wire.specs.Acks.{ackKind, ackFault, linkStateAckFault, treeAckFault}
-use Rattle.wire.specs.ForwardedFrames.{forwardedFault, headerFault, frameIn, orElse}
-use Rattle.wire.specs.Hellos.{helloFault}
-use Rattle.wire.specs.LinkStates.{linkStateFault}
-use Rattle.wire.specs.Messages.{kindOf, messageFault}
-use Rattle.wire.specs.SettingsBytes.{areSettings, settingsFault}
-use Rattle.wire.specs.StationFrames.{stationFault}
-use Rattle.wire.specs.TreeBytes.{treeFault}
+use Rattle.messages.specs.Acks.{ackKind, ackFault, linkStateAckFault, treeAckFault}
+use Rattle.frames.specs.ForwardedFrames.{forwardedFault, headerFault, frameIn, orElse}
+use Rattle.messages.specs.Hellos.{helloFault}
+use Rattle.messages.specs.LinkStates.{linkStateFault}
+use Rattle.messages.specs.Messages.{kindOf, messageFault}
+use Rattle.frames.specs.SettingsBytes.{areSettings, settingsFault}
+use Rattle.frames.specs.StationFrames.{stationFault}
+use Rattle.messages.specs.TreeBytes.{treeFault}
 use Rattle.wire_laws.specs.Damage.{bodyOf, sumOf, BodyDamaged, SumDamaged, Damage-told, Cut-told, Cut-settings-told, Told}
 use Rattle.wire_laws.proofs.Whole.{and-first, and-second, summed-four, summed-is, whole-is, whole-of, then-of}
 

@@ -17,11 +17,11 @@ use lib.Seq.{drop-at}
 use Rattle.std.proofs.shelf.Lists.{take-append-drop, take-append-le, take-all, length-take}
 use Rattle.crc.specs.Crc.{crcOf}
 use Rattle.trees.specs.declared.tree_id.TreeId.{TreeId}
-use Rattle.wire.specs.declared.forwarded.Header.{Header}
+use Rattle.frames.specs.declared.forwarded.Header.{Header}
 use Rattle.wire.specs.Bytes.{two, inTwo, inFour, summed, withSum}
-use Rattle.wire.specs.StationFrames.{stationFault}
+use Rattle.frames.specs.StationFrames.{stationFault}
 use Rattle.wire.specs.TreeIds.{TreeIdSays, treeIdBytes}
-use Rattle.wire.specs.ForwardedFrames.{headerThere, HeaderSays, headerFault, frameIn, orElse, forwardedFault, headerBytes, forwardedBytes}
+use Rattle.frames.specs.ForwardedFrames.{headerThere, HeaderSays, headerFault, frameIn, orElse, forwardedFault, headerBytes, forwardedBytes}
 use Rattle.wire_laws.specs.RoundTrips.{RoundTrip, Framed, FramedFits, FramedSays, framedBytes}
 use Rattle.wire_laws.proofs.Numbers.{two-back, three-back, four-back, in-two-at, front, take-front, take-split}
 use Rattle.wire_laws.proofs.TreeNumbers.{one-id, id-bytes}

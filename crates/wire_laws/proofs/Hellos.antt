@@ -13,9 +13,9 @@ use Rattle.crc.specs.Burst.{Bytes}
 use Rattle.sets.proofs.Members.{same-id}
 use Rattle.wire.specs.declared.fault.Fault.{Fault}
 use Rattle.wire.specs.declared.fault.Fault.the-variants.{Malformed, NotThere}
-use Rattle.wire.specs.declared.hello.Hello.{Hello}
+use Rattle.messages.specs.declared.hello.Hello.{Hello}
 use Rattle.wire.specs.Bytes.{four, inFour, whole, withSum}
-use Rattle.wire.specs.Hellos.{helloFault, HelloSays, helloBytes}
+use Rattle.messages.specs.Hellos.{helloFault, HelloSays, helloBytes}
 use Rattle.wire_laws.specs.RoundTrips.{RoundTrip, HelloFits}
 use Rattle.wire_laws.proofs.Numbers.{four-back, in-four-at}
 use Rattle.wire_laws.proofs.Whole.{is-whole, whole-bytes, whole-is, whole-of}

@@ -18,9 +18,9 @@ use Rattle.sets.specs.Sets.{bytesOf, numberOf, Bytes16}
 use Rattle.sets.proofs.InBytes.{number-back, bytes-back}
 use Rattle.std.proofs.shelf.Lists.{drop-take, take-append-drop}
 use Rattle.wire.specs.declared.count.Count.{Count}
-use Rattle.wire.specs.declared.link_state.LinkState.{LinkState}
+use Rattle.messages.specs.declared.link_state.LinkState.{LinkState}
 use Rattle.wire.specs.Bytes.{four, six, inFour, inSix, whole, withSum}
-use Rattle.wire.specs.LinkStates.{linkStateFault, LinkStateSays, linkStateHead, linkStateBytes}
+use Rattle.messages.specs.LinkStates.{linkStateFault, LinkStateSays, linkStateHead, linkStateBytes}
 use Rattle.wire_laws.specs.RoundTrips.{RoundTrip, LinkStateFits}
 use Rattle.wire_laws.proofs.Numbers.{byte-at, four-back, six-back, in-four-at, in-six-at, front, take-front}
 use Rattle.wire_laws.proofs.Whole.{is-whole, whole-bytes, whole-is, whole-of}

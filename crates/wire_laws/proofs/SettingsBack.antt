@@ -18,9 +18,9 @@ use native.Mathlib.Decide.{decLt}
 use lib.Seq.{getD-append-add}
 use Rattle.std.proofs.shelf.Lists.{getD-drop, take-append-drop}
 use Rattle.sets.specs.declared.bridge_id.BridgeId.{BridgeId}
-use Rattle.wire.specs.declared.settings.Settings.{Settings}
+use Rattle.frames.specs.declared.settings.Settings.{Settings}
 use Rattle.wire.specs.Bytes.{two, four, inTwo, inFour, pairsOf}
-use Rattle.wire.specs.SettingsBytes.{areSettings, vlanIn, vlansCanBe, canBe, settingsFault, VlansSay, SettingsSay, settingsHead, inTwos, settingsBytes}
+use Rattle.frames.specs.SettingsBytes.{areSettings, vlanIn, vlansCanBe, canBe, settingsFault, VlansSay, SettingsSay, settingsHead, inTwos, settingsBytes}
 use Rattle.wire.proofs.Rows.{same-list, length-pairs, getD-pairs, pairs-are}
 use Rattle.wire_laws.specs.RoundTrips.{RoundTrip, SettingsFit}
 use Rattle.wire_laws.proofs.Numbers.{two-back, four-back, in-two-at, in-four-at, front, take-front}

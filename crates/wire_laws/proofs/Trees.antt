@@ -24,9 +24,10 @@ use Rattle.trees.specs.declared.tree_id.TreeId.{TreeId}
 use Rattle.trees.specs.declared.spanning_tree.Tree.{Tree}
 use Rattle.wire.specs.Bytes.{three, four, inFour, pairsOf, summed, whole, withSum}
 use Rattle.wire.specs.TreeIds.{TreeIdSays, treeIdBytes}
-use Rattle.wire.specs.TreeBytes.{row, parentsIn, depthsIn, treeFault, TreeSays, paired, treeHead, treeBytes}
-use Rattle.wire.proofs.Rows.{length-row, getD-row, same-list, length-pairs, getD-pairs, pairs-are}
-use Rattle.wire.proofs.Grown.{tree-read}
+use Rattle.messages.specs.TreeBytes.{row, parentsIn, depthsIn, treeFault, TreeSays, paired, treeHead, treeBytes}
+use Rattle.messages.proofs.Columns.{length-row, getD-row}
+use Rattle.wire.proofs.Rows.{same-list, length-pairs, getD-pairs, pairs-are}
+use Rattle.messages.proofs.Grown.{tree-read}
 use Rattle.wire_laws.specs.RoundTrips.{RoundTrip, TreeFits}
 use Rattle.wire_laws.proofs.Numbers.{three-back, four-back, front, take-front, take-split}
 use Rattle.wire_laws.proofs.TreeNumbers.{one-id, id-bytes}

@@ -8,8 +8,8 @@ use Rattle.std.specs.declared.option.Option.the-variants.{Some, None}
 use Rattle.crc.specs.Crc.{bitsOf}
 use Rattle.crc.specs.Burst.{Bytes, Window}
 use Rattle.wire.specs.declared.fault.Fault.the-variants.{Malformed}
-use Rattle.wire.specs.Messages.{kindOf, messageFault}
-use Rattle.wire.specs.SettingsBytes.{settingsFault}
+use Rattle.messages.specs.Messages.{kindOf, messageFault}
+use Rattle.frames.specs.SettingsBytes.{settingsFault}
 
 -- what stands before the sum, and the sum
 abbrev pub bodyOf : List ℕ → List ℕ

@@ -8,20 +8,20 @@ use Rattle.std.specs.declared.option.Option.the-variants.{Some, None}
 use Rattle.crc.specs.Burst.{Bytes}
 use Rattle.trees.specs.declared.spanning_tree.Tree.{Tree}
 use Rattle.wire.specs.declared.fault.Fault.{Fault}
-use Rattle.wire.specs.declared.ack.Ack.{Ack}
-use Rattle.wire.specs.declared.ack.Acked.{Acked}
-use Rattle.wire.specs.declared.ack.Acked.the-variants as acked
-use Rattle.wire.specs.declared.forwarded.Header.{Header}
-use Rattle.wire.specs.declared.hello.Hello.{Hello}
-use Rattle.wire.specs.declared.link_state.LinkState.{LinkState}
-use Rattle.wire.specs.declared.settings.Settings.{Settings}
-use Rattle.wire.specs.Acks.{ackFault, AckSays, ackBytes}
-use Rattle.wire.specs.ForwardedFrames.{forwardedFault, HeaderSays, forwardedBytes, frameIn}
-use Rattle.wire.specs.Hellos.{helloFault, HelloSays, helloBytes}
-use Rattle.wire.specs.LinkStates.{linkStateFault, LinkStateSays, linkStateBytes}
-use Rattle.wire.specs.SettingsBytes.{settingsFault, SettingsSay, settingsBytes}
-use Rattle.wire.specs.StationFrames.{stationFault}
-use Rattle.wire.specs.TreeBytes.{treeFault, TreeSays, treeBytes}
+use Rattle.messages.specs.declared.ack.Ack.{Ack}
+use Rattle.messages.specs.declared.ack.Acked.{Acked}
+use Rattle.messages.specs.declared.ack.Acked.the-variants as acked
+use Rattle.frames.specs.declared.forwarded.Header.{Header}
+use Rattle.messages.specs.declared.hello.Hello.{Hello}
+use Rattle.messages.specs.declared.link_state.LinkState.{LinkState}
+use Rattle.frames.specs.declared.settings.Settings.{Settings}
+use Rattle.messages.specs.Acks.{ackFault, AckSays, ackBytes}
+use Rattle.frames.specs.ForwardedFrames.{forwardedFault, HeaderSays, forwardedBytes, frameIn}
+use Rattle.messages.specs.Hellos.{helloFault, HelloSays, helloBytes}
+use Rattle.messages.specs.LinkStates.{linkStateFault, LinkStateSays, linkStateBytes}
+use Rattle.frames.specs.SettingsBytes.{settingsFault, SettingsSay, settingsBytes}
+use Rattle.frames.specs.StationFrames.{stationFault}
+use Rattle.messages.specs.TreeBytes.{treeFault, TreeSays, treeBytes}
 
 -- a way to write messages M, of which those that fit are all that there are, and to read them
 pub record RoundTrip (M : Type 0) (Fits : M → Type 0) (fault : List ℕ → Option Fault) (Says : List ℕ → M → Type 0) (bytes : M → List ℕ) : Type 0 where
