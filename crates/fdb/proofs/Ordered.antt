@@ -132,9 +132,11 @@ stands-at s es h i l e = (l, find-at s es h i l e, λ x q. put-set x es h i l (e
 
 pub belongs-at : (s : ℕ) (es : List Entry) (i : ℕ) → i ≤ length es → ((k : ℕ) → k < i → getD es k noEntry .station < s) →
     ((k : ℕ) → i ≤ k → k < length es → s < getD es k noEntry .station) → BelongsAt s es i
-belongs-at s es i l b a =
-    (l, find-nowhere s es (λ k m e. elim (cases-lt k i) [ inl p ↦ (let q = b k p in omega arith) | inr p ↦ (let q = a k p m in omega arith) ]),
-     λ x q. put-inserted x es i l (λ k m. let p = b k m in omega arith) (λ k m n. let p = a k m n in omega arith))
+belongs-at s es i l b a = (
+  l,
+  find-nowhere s es (λ k m e. elim (cases-lt k i) [ inl p ↦ (let q = b k p in omega arith) | inr p ↦ (let q = a k p m in omega arith) ]),
+  λ x q. put-inserted x es i l (λ k m. let p = b k m in omega arith) (λ k m n. let p = a k m n in omega arith),
+)
 
 -- of two stations one is not the one that is kept
 pub oldest-some : (keep : ℕ) (es : List Entry) → ascending es ≡ true → oldest keep es ≡ None → length es < 2

@@ -10,11 +10,11 @@ use Rattle.fdb.proofs.ageing.keep_fresh.Needs.{then-is-fresh, else-is-fresh}
 pub loop-i-again : need.loop-i-again
 loop-i-again c =
     elim (c .if-is-fresh .came) [
-      then-is-fresh w ↦ rw (w .entries-is, w .count-is)
-        (keeping-more-set {x = getD (c .loop-i .entries) (c .loop-i .i) noEntry} (c .loop-i .inv) (omega arith) (sym (c .is-fresh .ensures) ∙ w .if-is-fresh .taken)
+      | then-is-fresh w ↦ rw (w .entries-is, w .count-is)
+          (keeping-more-set {x = getD (c .loop-i .entries) (c .loop-i .i) noEntry} (c .loop-i .inv) (omega arith) (sym (c .is-fresh .ensures) ∙ w .if-is-fresh .taken)
           (getD-default (c .loop-i .entries) (c .loop-i .i) noEntry (getD (c .loop-i .entries) (c .loop-i .i) noEntry) (omega arith)))
-    | else-is-fresh w ↦ rw (w .entries-is, w .count-is)
-        (keeping-more-no {x = getD (c .loop-i .entries) (c .loop-i .i) noEntry} (c .loop-i .inv) (omega arith) (sym (c .is-fresh .ensures) ∙ w .if-is-fresh .left)
+      | else-is-fresh w ↦ rw (w .entries-is, w .count-is)
+          (keeping-more-no {x = getD (c .loop-i .entries) (c .loop-i .i) noEntry} (c .loop-i .inv) (omega arith) (sym (c .is-fresh .ensures) ∙ w .if-is-fresh .left)
           (getD-default (c .loop-i .entries) (c .loop-i .i) noEntry (getD (c .loop-i .entries) (c .loop-i .i) noEntry) (omega arith)))
     ]
 

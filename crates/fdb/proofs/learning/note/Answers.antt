@@ -16,7 +16,7 @@ pub returns-in-Ok : need.returns-in-Ok
 returns-in-Ok c =
     let es = vec-items (c .args .entries .now) in
     let h : set es (c .in-Ok .i) (c .args .entry) ≡ learned (c .args .entry) (c .args .keep) es
-        = noted (c .args .entry) (c .args .keep) es (c .as-slice .result .now) (c .in-Ok .i) (c .as-slice .ensures .value) (c .in-Ok .ensures tt) in
+    = noted (c .args .entry) (c .args .keep) es (c .as-slice .result .now) (c .in-Ok .i) (c .as-slice .ensures .value) (c .in-Ok .ensures tt) in
     record { items = h; sorted = subst (λ xs. ascending xs ≡ true) (sym h) (learned-ascending (c .args .entry) (c .args .keep) es (c .pre .sorted)); room = (omega arith, omega arith) }
 
 pub returns-in-Err : need.returns-in-Err

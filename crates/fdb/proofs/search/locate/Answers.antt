@@ -10,11 +10,16 @@ use Rattle.fdb.proofs.search.locate.Needs.{then-entries-base, else-entries-bas
 pub loop-size-again : need.loop-size-again
 loop-size-again c =
     elim (c .if-entries-base .came) [
-      then-entries-base w ↦ (omega arith, omega (arith, w .base-is), λ _. grind (arith, w .base-is, w .if-entries-base .taken), λ k m l. c .loop-size .inv .3 k (omega (arith, w .base-is)) l)
-    | else-entries-base w ↦ (omega arith, omega (arith, w .base-is), λ z. grind (arith, w .base-is, c .loop-size .inv .2),
+      | then-entries-base w ↦ (omega arith, omega (arith, w .base-is), λ _. grind (arith, w .base-is, w .if-entries-base .taken), λ k m l. c .loop-size .inv .3 k (omega (arith, w .base-is)) l)
+      | else-entries-base w ↦ (
+        omega arith,
+        omega (arith, w .base-is),
+        λ z. grind (arith, w .base-is, c .loop-size .inv .2),
         λ k m l. elim (cases-eq (c .loop-size .base + c .loop-size .size / 2) k) [
-          inl e ↦ grind (arith, w .if-entries-base .left)
-        | inr n ↦ grind (arith, w .if-entries-base .left, w .base-is, rises (c .args .entries .now) (c .pre) (c .loop-size .base + c .loop-size .size / 2) k) ])
+          | inl e ↦ grind (arith, w .if-entries-base .left)
+          | inr n ↦ grind (arith, w .if-entries-base .left, w .base-is, rises (c .args .entries .now) (c .pre) (c .loop-size .base + c .loop-size .size / 2) k)
+        ],
+      )
     ]
 
 pub returns-then-size-eq0 : need.returns-then-size-eq0

@@ -10,7 +10,7 @@ abbrev pub Inv-loop-i : given.InvT-loop-i
 Inv-loop-i l =
     (l .i ≤ length (l .entries))
     × Cases (l .best) (oldest (l .keep) (drop (l .i) (l .entries)) ≡ None)
-      (λ b. (b < length (l .entries)) × (oldest (l .keep) (drop (l .i) (l .entries)) ≡ Some (getD (l .entries) b noEntry)))
+    (λ b. (b < length (l .entries)) × (oldest (l .keep) (drop (l .i) (l .entries)) ≡ Some (getD (l .entries) b noEntry)))
 
 abbrev pub μ-loop-i : given.MeasureT-loop-i
 μ-loop-i l = l .i
