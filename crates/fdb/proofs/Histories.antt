@@ -40,13 +40,12 @@ who k s = go (groupAddress (s .address)) refl
 
 -- the address of a group changes nothing
 learnt-group : (s : Station) (at : Location) (tick : ℕ) (keep : Station) (c : Contents) → groupAddress (s .address) ≡ true → learnt s at tick keep c ≡ c
-unfolding learnt
 learnt-group s at tick keep c g = rw g refl
 
 -- what is found after a station was heard: of itself, and of another
 find-itself : (s : Station) (at : Location) (tick : ℕ) (keep : Station) (c : Contents) → groupAddress (s .address) ≡ false →
     find (numberOf s) (learnt s at tick keep c .entries) ≡ Some (entryOf s at tick (c .heard))
-unfolding learnt learned
+unfolding learned
 find-itself s at tick keep c g = rw g (find-put (entryOf s at tick (c .heard)) _)
 
 data Another (s : Station) (at : Location) (tick : ℕ) (keep : Station) (c : Contents) (k : ℕ) : Type 0 where
@@ -54,17 +53,19 @@ data Another (s : Station) (at : Location) (tick : ℕ) (keep : Station) (c : Co
   gone : find k (learnt s at tick keep c .entries) ≡ None → isOf k (goes s keep c) ≡ true → Another s at tick keep c k
 
 find-another : (s : Station) (at : Location) (tick : ℕ) (keep : Station) (c : Contents) (k : ℕ) → groupAddress (s .address) ≡ false → (k ≡ numberOf s → ⊥) → Another s at tick keep c k
-unfolding learnt learned
+unfolding learned
 find-another s at tick keep c k g n = go (find (numberOf s) (c .entries)) refl
   where
     e : Entry
     e = entryOf s at tick (c .heard)
+
     go : (f : Option Entry) → find (numberOf s) (c .entries) ≡ f → Another s at tick keep c k
     go (Some x) q = same (rw (g, q) (find-put-other k e (c .entries) n))
     go None q = elim (left (numberOf keep) k (c .entries)) [
-        stayed h ↦ same (rw (g, q) (find-put-other k e (roomFor (numberOf keep) (c .entries)) n ∙ h))
+      | stayed h ↦ same (rw (g, q) (find-put-other k e (roomFor (numberOf keep) (c .entries)) n ∙ h))
       | went v m o w h ↦ gone (rw (g, q) (find-put-other k e (roomFor (numberOf keep) (c .entries)) n ∙ h))
-          (rw (g, q, le-ltb (length (c .entries)) most m, o) (eq-eqb (v .station) k w)) ]
+          (rw (g, q, le-ltb (length (c .entries)) most m, o) (eq-eqb (v .station) k w))
+    ]
 
 -- what is found after some were left out was found before
 find-kept-back : (p : Entry → Bool) (k : ℕ) (es : List Entry) (e : Entry) → ascending es ≡ true → find k (kept-by p es) ≡ Some e → find k es ≡ Some e
@@ -109,8 +110,9 @@ shows (Heard s at tick keep ∷ es) k e f = go (who k s) (shows es k e)
         let z : e ≡ entryOf s at tick (after es .heard) = cc (find-itself s at tick keep (after es) g) in
         (record { at = at; tick = tick; turn = length es }, rw y refl, ap (λ x. x .location) (sym z), ap (λ x. x .tick) (sym z))
     go (another g n y) ih = elim (find-another s at tick keep (after es) k g n) [
-        same h ↦ rw y (ih (sym h ∙ f))
-      | gone h i ↦ absurd (let z : _≡_ {A = ℕ} 0 1 = cc in omega arith) ]
+      | same h ↦ rw y (ih (sym h ∙ f))
+      | gone h i ↦ absurd (let z : _≡_ {A = ℕ} 0 1 = cc in omega arith)
+    ]
 shows (Passed tick ∷ es) k e f = shows es k e (find-kept-back (fresh tick) k (after es .entries) e (sound-after es .sorted) (unremembered tick (after es .entries) k ∙ f))
 shows (Cleared ∷ es) k e f = absurd (let z : _≡_ {A = ℕ} 0 1 = cc in omega arith)
 
@@ -144,20 +146,23 @@ held-still (Heard s at tick keep ∷ es) r k h l c v f = go (who k s) (held-stil
   where
     rs : (leb (clock es) tick ≡ true) × (rising es ≡ true)
     rs = and-parts (leb (clock es) tick) (rising es) r
+
     go : Who k s → (lastHeard k es ≡ Some h → clock es < h .tick + 300 → evictedSince k es ≡ false → find k (after es .entries) ≡ None → ⊥) → ⊥
     go (group g n) ih = ih (sym (last-other k s at tick keep es n) ∙ l) (omega (arith, leb-true (clock es) tick (rs .0)))
         (or-parts (isOf k (goes s keep (after es))) (evictedSince k es) (sym (evicted-other k s at tick keep es n) ∙ v) .1) (ap (λ d. find k (d .entries)) (sym (learnt-group s at tick keep (after es) g)) ∙ f)
     go (itself g q y) ih = let z : _≡_ {A = ℕ} 0 1 = cc (find-itself s at tick keep (after es) g) in omega arith
     go (another g n y) ih =
         let ps : (isOf k (goes s keep (after es)) ≡ false) × (evictedSince k es ≡ false)
-            = or-parts (isOf k (goes s keep (after es))) (evictedSince k es) (sym (evicted-other k s at tick keep es y) ∙ v) in
+        = or-parts (isOf k (goes s keep (after es))) (evictedSince k es) (sym (evicted-other k s at tick keep es y) ∙ v) in
         elim (find-another s at tick keep (after es) k g n) [
-          same q ↦ ih (sym (last-other k s at tick keep es y) ∙ l) (omega (arith, leb-true (clock es) tick (rs .0))) (ps .1) (sym q ∙ f)
-        | gone q i ↦ both-ways (isOf k (goes s keep (after es))) (ps .0) i ]
+          | same q ↦ ih (sym (last-other k s at tick keep es y) ∙ l) (omega (arith, leb-true (clock es) tick (rs .0))) (ps .1) (sym q ∙ f)
+          | gone q i ↦ both-ways (isOf k (goes s keep (after es))) (ps .0) i
+        ]
 held-still (Passed tick ∷ es) r k h l c v f = go (find k (after es .entries)) refl (held-still es (rs .1) k h l (omega (arith, leb-true (clock es) tick (rs .0))) v)
   where
     rs : (leb (clock es) tick ≡ true) × (rising es ≡ true)
     rs = and-parts (leb (clock es) tick) (rising es) r
+
     go : (o : Option Entry) → find k (after es .entries) ≡ o → (find k (after es .entries) ≡ None → ⊥) → ⊥
     go None q ih = ih q
     go (Some e) q ih =
@@ -177,18 +182,21 @@ gone-now es k tick e q l = find-kept-no (fresh tick) k (after es .entries) e (so
 
 pub history : History
 history es r k = record {
-    last = λ at p. named at (find k (after es .entries)) refl p;
-    known = λ h l c v. remembers h l (find k (after es .entries)) refl (held-still es r k h l c v);
-    forgotten = λ h tick l o. forgets h tick l o (find k (after es .entries)) refl }
+  last = λ at p. named at (find k (after es .entries)) refl p;
+  known = λ h l c v. remembers h l (find k (after es .entries)) refl (held-still es r k h l c v);
+  forgotten = λ h tick l o. forgets h tick l o (find k (after es .entries)) refl;
+}
   where
     named : (at : Location) (o : Option Entry) → find k (after es .entries) ≡ o → whereIs o ≡ Some at → (h : Sighting) × (lastHeard k es ≡ Some h) × (h .at ≡ at)
     named at None q p = absurd (let z : _≡_ {A = ℕ} 0 1 = cc in omega arith)
     named at (Some e) q p = let w = shows es k e q in let z : e .location ≡ at = cc in (w .0, w .1, w .2 ∙ z)
+
     remembers : (h : Sighting) → lastHeard k es ≡ Some h → (o : Option Entry) → find k (after es .entries) ≡ o → (find k (after es .entries) ≡ None → ⊥) → placeOf (after es .entries) k ≡ Some (h .at)
     remembers h l None q n = absurd (n q)
     remembers h l (Some e) q n =
         let w = shows es k e q in let z : h ≡ w .0 = cc (w .1) in
         rw q (ap (λ x. Some x) (sym (w .2) ∙ ap (λ x. x .at) (sym z)))
+
     forgets : (h : Sighting) (tick : ℕ) → lastHeard k es ≡ Some h → h .tick + 300 ≤ tick → (o : Option Entry) → find k (after es .entries) ≡ o → placeOf (after (Passed tick ∷ es) .entries) k ≡ None
     forgets h tick l m None q = ap whereIs (gone-already es k tick q)
     forgets h tick l m (Some e) q =
@@ -198,14 +206,13 @@ history es r k = record {
 
 -- what a station was heard at stands in the order in which all was heard
 heard-few : (es : List Event) → after es .heard ≤ length es
-unfolding after learnt
+unfolding after
 heard-few [] = omega arith
 heard-few (Heard s at tick keep ∷ es) = let h = heard-few es in grind (arith, tells)
 heard-few (Passed tick ∷ es) = let h = heard-few es in omega arith
 heard-few (Cleared ∷ es) = omega arith
 
 heard-next : (s : Station) (at : Location) (tick : ℕ) (keep : Station) (c : Contents) → groupAddress (s .address) ≡ false → c .heard < 2 ^ 64 - 1 → learnt s at tick keep c .heard ≡ c .heard + 1
-unfolding learnt
 heard-next s at tick keep c g l = grind (arith, tells)
 
 turn-below : (k : ℕ) (es : List Event) (h : Sighting) → lastHeard k es ≡ Some h → h .turn < length es
@@ -237,10 +244,13 @@ older (Heard s at tick keep ∷ es) r m k e f = go (who k s) (older es (rs .1) (
   where
     rs : (leb (clock es) tick ≡ true) × (rising es ≡ true)
     rs = and-parts (leb (clock es) tick) (rising es) r
+
     few : after es .heard < 2 ^ 64 - 1
     few = let h = heard-few es in omega arith
+
     late : clock es ≤ tick
     late = leb-true (clock es) tick (rs .0)
+
     go : Who k s → (find k (after es .entries) ≡ Some e → (e .order < after es .heard) × (e .tick ≤ clock es)) → (e .order < learnt s at tick keep (after es) .heard) × (e .tick ≤ tick)
     go (group g n) ih =
         let q = learnt-group s at tick keep (after es) g in
@@ -265,10 +275,13 @@ sooner (Heard s at tick keep ∷ es) r m j k d e g h fj fk lj lk t = go (who j s
   where
     rs : (leb (clock es) tick ≡ true) × (rising es ≡ true)
     rs = and-parts (leb (clock es) tick) (rising es) r
+
     late : clock es ≤ tick
     late = leb-true (clock es) tick (rs .0)
+
     was : (i : ℕ) → hears i s ≡ false → (w : Sighting) → lastHeard i (Heard s at tick keep ∷ es) ≡ Some w → lastHeard i es ≡ Some w
     was i n w l = sym (last-other i s at tick keep es n) ∙ l
+
     go : Who j s → Who k s →
         (find j (after es .entries) ≡ Some d → find k (after es .entries) ≡ Some e → lastHeard j es ≡ Some g → lastHeard k es ≡ Some h → g .turn < h .turn → (d .order < e .order) × (d .tick ≤ e .tick)) →
         (d .order < e .order) × (d .tick ≤ e .tick)
@@ -299,15 +312,20 @@ only-some true o v h = absurd (let z : _≡_ {A = ℕ} 0 1 = cc in omega arith)
 only-some false o v h = h
 
 pub longest : Longest
-longest es r m s keep v o = (oldest-other (numberOf keep) held v old, λ k e f n u h w lk lv. elim (cases-lt (w .turn) (h .turn)) [
-    inl l ↦ l
-  | inr l ↦ absurd (
-      let t = turns-differ k (v .station) es h w lk lv u in
-      let q = sooner es r m k (v .station) e v h w f (oldest-held (numberOf keep) held v (sound-after es .sorted) old) lk lv (omega (arith, t)) in
-      let b : earlier e v ≡ true = grind (arith, tells) in
-      both-ways (earlier e v) (oldest-first (numberOf keep) k held v e old f n) b) ])
+longest es r m s keep v o = (
+  oldest-other (numberOf keep) held v old,
+  λ k e f n u h w lk lv. elim (cases-lt (w .turn) (h .turn)) [
+    | inl l ↦ l
+    | inr l ↦ absurd (
+        let t = turns-differ k (v .station) es h w lk lv u in
+        let q = sooner es r m k (v .station) e v h w f (oldest-held (numberOf keep) held v (sound-after es .sorted) old) lk lv (omega (arith, t)) in
+        let b : earlier e v ≡ true = grind (arith, tells) in
+        both-ways (earlier e v) (oldest-first (numberOf keep) k held v e old f n) b)
+  ],
+)
   where
     held : List Entry
     held = after es .entries
+
     old : oldest (numberOf keep) (after es .entries) ≡ Some v
     old = only-some (groupAddress (s .address) || (isSome (find (numberOf s) (after es .entries)) || ltb (length (after es .entries)) most)) (oldest (numberOf keep) (after es .entries)) v o

@@ -21,8 +21,6 @@ use Rattle.fdb.specs.Entries.{above, ascending, find, put, without, oldest, lo
 use Rattle.fdb.specs.Contents.{Contents, most, numberOf, evicted, roomFor, learned, learnt, aged, entryOf, next}
 use Rattle.fdb.specs.Learning.{Sound, Evicts, Learns, Learning}
 use Rattle.fdb.specs.Ageing.{Forgets, Ageing}
-use Rattle.fdb.specs.declared.table.Table.{Table}
-use Rattle.fdb.specs.Held.{contents}
 use Rattle.fdb.proofs.Ordered.{ascending-put, room-ascending, learned-ascending, ascending-remembered, oldest-some, room-new, find-kept}
 use Rattle.fdb.proofs.Found.{find-put, find-put-other, find-without, find-without-other, find-station, length-put-new, length-put-known, length-kept, length-without, oldest-other, oldest-held, oldest-first, find-kept-yes, find-kept-no}
 
@@ -38,8 +36,10 @@ left keep k es = go (ltb (length es) most) refl
     out : (v : Option Entry) → oldest keep es ≡ v → ltb (length es) most ≡ false → Left keep k es
     out None o f = stayed (rw (f, o) refl)
     out (Some v) o f = elim (cases-eq k (v .station)) [
-        inl p ↦ went v (ltb-false (length es) most f) o (sym p) (rw (f, o) (subst (λ s. find k (without s es) ≡ None) p (find-without k es)))
-      | inr n ↦ stayed (rw (f, o) (find-without-other k (v .station) es n)) ]
+      | inl p ↦ went v (ltb-false (length es) most f) o (sym p) (rw (f, o) (subst (λ s. find k (without s es) ≡ None) p (find-without k es)))
+      | inr n ↦ stayed (rw (f, o) (find-without-other k (v .station) es n))
+    ]
+
     go : (b : Bool) → ltb (length es) most ≡ b → Left keep k es
     go true t = stayed (rw t refl)
     go false f = out (oldest keep es) refl f
@@ -52,6 +52,7 @@ room-length keep es a l = go (ltb (length es) most) refl
     out : (v : Option Entry) → oldest keep es ≡ v → ltb (length es) most ≡ false → length (roomFor keep es) < most
     out None o f = absurd (let q = oldest-some keep es a o in let m = ltb-false (length es) most f in omega arith)
     out (Some v) o f = rw (f, o) (let q = length-without (v .station) es v (oldest-held keep es v a o) in omega arith)
+
     go : (b : Bool) → ltb (length es) most ≡ b → length (roomFor keep es) < most
     go true t = rw t (ltb-true (length es) most t)
     go false f = out (oldest keep es) refl f
@@ -65,40 +66,46 @@ learned-length e keep es a l = go (find (e .station) es) refl
     go (Some x) q = rw q (let h = length-put-known e es x a q in omega arith)
 
 pub learns : Learning
-unfolding learnt learned
+unfolding learned
 learns s at tick keep c ok g = record {
-    here = rw g (ap whereIs (find-put e (room (find (numberOf s) (c .entries)))));
-    others = λ k n. rw g (other k n (find (numberOf s) (c .entries)) refl);
-    safe = λ n. rw g (safely n (find (numberOf s) (c .entries)) refl);
-    sound = rw g (record { sorted = learned-ascending e (numberOf keep) (c .entries) (ok .sorted); within = learned-length e (numberOf keep) (c .entries) (ok .sorted) (ok .within) }) }
+  here = rw g (ap whereIs (find-put e (room (find (numberOf s) (c .entries)))));
+  others = λ k n. rw g (other k n (find (numberOf s) (c .entries)) refl);
+  safe = λ n. rw g (safely n (find (numberOf s) (c .entries)) refl);
+  sound = rw g (record { sorted = learned-ascending e (numberOf keep) (c .entries) (ok .sorted); within = learned-length e (numberOf keep) (c .entries) (ok .sorted) (ok .within) });
+}
   where
     e : Entry
     e = entryOf s at tick (c .heard)
+
     room : Option Entry → List Entry
     room f = cond (isSome f) (c .entries) (roomFor (numberOf keep) (c .entries))
+
     other : (k : ℕ) → (k ≡ numberOf s → ⊥) → (f : Option Entry) → find (numberOf s) (c .entries) ≡ f →
         (find k (put e (room f)) ≡ find k (c .entries)) ⊎ ((find k (put e (room f)) ≡ None) × Evicts c (numberOf s) (numberOf keep) k)
     other k n (Some x) q = inl (find-put-other k e (c .entries) n)
     other k n None q = elim (left (numberOf keep) k (c .entries)) [
-        stayed h ↦ inl (find-put-other k e (roomFor (numberOf keep) (c .entries)) n ∙ h)
-      | went v m o w h ↦ inr (find-put-other k e (roomFor (numberOf keep) (c .entries)) n ∙ h, record {
+      | stayed h ↦ inl (find-put-other k e (roomFor (numberOf keep) (c .entries)) n ∙ h)
+      | went v m o w h ↦ inr (
+        find-put-other k e (roomFor (numberOf keep) (c .entries)) n ∙ h,
+        record {
           full = omega (arith, ok .within);
           new = q;
           other = λ p. oldest-other (numberOf keep) (c .entries) v o (w ∙ p);
           longest = λ d x j fd fx p.
-            let z : d ≡ v = cc (oldest-held (numberOf keep) (c .entries) v (ok .sorted) o) in
-            subst (λ y. earlier x y ≡ false) (sym z) (oldest-first (numberOf keep) j (c .entries) v x o fx p) }) ]
+              let z : d ≡ v = cc (oldest-held (numberOf keep) (c .entries) v (ok .sorted) o) in
+              subst (λ y. earlier x y ≡ false) (sym z) (oldest-first (numberOf keep) j (c .entries) v x o fx p);
+        },
+      )
+    ]
+
     safely : (numberOf keep ≡ numberOf s → ⊥) → (f : Option Entry) → find (numberOf s) (c .entries) ≡ f → find (numberOf keep) (put e (room f)) ≡ find (numberOf keep) (c .entries)
     safely n f q = elim (other (numberOf keep) n f q) [ inl h ↦ h | inr h ↦ absurd (h .1 .other refl) ]
 
 pub ages : Ageing
 unfolding remembered
 ages tick c ok = record {
-    young = λ k e h l. find-kept-yes (fresh tick) k (c .entries) e h (lt-ltb tick (e .tick + 300) l);
-    old = λ k e h l. find-kept-no (fresh tick) k (c .entries) e (ok .sorted) h (le-ltb tick (e .tick + 300) l);
-    unknown = λ k h. find-kept k (fresh tick) (c .entries) h;
-    sound = record { sorted = ascending-remembered tick (c .entries) (ok .sorted); within = let h = length-kept (fresh tick) (c .entries) in omega (arith, ok .within) } }
-
--- what a table in memory holds is sound
-pub sound-table : (t : Table) → Sound (contents t)
-sound-table t = record { sorted = t .sorted; within = omega (arith, t .room, t .entries .ok .0) }
+  young = λ k e h l. find-kept-yes (fresh tick) k (c .entries) e h (lt-ltb tick (e .tick + 300) l);
+  old = λ k e h l. find-kept-no (fresh tick) k (c .entries) e (ok .sorted) h (le-ltb tick (e .tick + 300) l);
+  unknown = λ k h. find-kept k (fresh tick) (c .entries) h;
+  sound = record { sorted = ascending-remembered tick (c .entries) (ok .sorted); within = let h = length-kept (fresh tick) (c .entries) in omega (arith, ok .within) };
+}

@@ -5,7 +5,7 @@ use Prim.Native.Nat.{ℕ, zero, suc, _+_, _*_, _^_, _<_}
 use native.Mathlib.Omega.{arith}
 use lib.ListN.{length, getD}
 use Rattle.std.proofs.shelf.Lists.{ext-getD}
-use Rattle.fdb.specs.Address.{stationNumber, SixBytes, Apart}
+use Rattle.fdb.specs.Address.{addressNumber, SixBytes, Apart}
 
 -- a number of several digits has one last digit, and one rest
 last-byte : (a b x y : ℕ) → x < 256 → y < 256 → a * 256 + x ≡ b * 256 + y → (a ≡ b) × (x ≡ y)
@@ -24,13 +24,14 @@ six a b c d e f a′ b′ c′ d′ e′ f′ lb lc ld le lf lb′ lc′ ld′ l
     (qb .0, qb .1, qc .1, qd .1, qe .1, qf .1)
 
 pub apart : Apart
-unfolding stationNumber
+unfolding addressNumber
 apart a b v w sa sb lv lw e = (ext-getD 0 a b (sa .0 ∙ sym (sb .0)) same, omega arith)
   where
     each : (getD a 0 0 ≡ getD b 0 0) × (getD a 1 0 ≡ getD b 1 0) × (getD a 2 0 ≡ getD b 2 0) × (getD a 3 0 ≡ getD b 3 0) × (getD a 4 0 ≡ getD b 4 0) × (getD a 5 0 ≡ getD b 5 0)
     each = six (getD a 0 0) (getD a 1 0) (getD a 2 0) (getD a 3 0) (getD a 4 0) (getD a 5 0) (getD b 0 0) (getD b 1 0) (getD b 2 0) (getD b 3 0) (getD b 4 0) (getD b 5 0)
         (sa .1 1 (omega arith)) (sa .1 2 (omega arith)) (sa .1 3 (omega arith)) (sa .1 4 (omega arith)) (sa .1 5 (omega arith))
         (sb .1 1 (omega arith)) (sb .1 2 (omega arith)) (sb .1 3 (omega arith)) (sb .1 4 (omega arith)) (sb .1 5 (omega arith)) (omega arith)
+
     same : (i : ℕ) → i < length a → getD a i 0 ≡ getD b i 0
     same zero l = each .0
     same (suc zero) l = each .1

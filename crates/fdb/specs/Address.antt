@@ -7,12 +7,12 @@ use lib.Dec.{eqb}
 use lib.ListN.{length, getD}
 
 -- the six bytes of an address as one number, the high byte first
-abbrev pub addressNumber : List ℕ → ℕ
+unfoldable pub addressNumber : List ℕ → ℕ
 addressNumber bytes =
     getD bytes 0 0 * 2 ^ 40 + getD bytes 1 0 * 2 ^ 32 + getD bytes 2 0 * 2 ^ 24 + getD bytes 3 0 * 2 ^ 16 + getD bytes 4 0 * 2 ^ 8 + getD bytes 5 0
 
 -- a station: the address, and 12 bits of VLAN
-unfoldable pub stationNumber : List ℕ → ℕ → ℕ
+abbrev pub stationNumber : List ℕ → ℕ → ℕ
 stationNumber address vlan = addressNumber address * 4096 + vlan
 
 -- the address of a group has an odd first byte

@@ -50,7 +50,7 @@ abbrev pub entryOf : Station → Location → ℕ → ℕ → Entry
 entryOf s at tick order = record { station = numberOf s; location = at; tick = tick; order = order }
 
 -- a station is heard at a place and a tick, in a frame for the station that is kept; the address of a group sends nothing
-unfoldable pub learnt : Station → Location → ℕ → Station → Contents → Contents
+abbrev pub learnt : Station → Location → ℕ → Station → Contents → Contents
 learnt s at tick keep c =
     cond (groupAddress (s .address)) c (record { entries = learned (entryOf s at tick (c .heard)) (numberOf keep) (c .entries); heard = next (c .heard) })
 

@@ -92,4 +92,4 @@ abbrev pub Longest : Type 0
 Longest =
     (es : List Event) → rising es ≡ true → length es < 2 ^ 64 - 1 → (s keep : Station) (v : Entry) → goes s keep (after es) ≡ Some v →
     (v .station ≡ numberOf keep → ⊥) × ((k : ℕ) (e : Entry) → find k (after es .entries) ≡ Some e → (k ≡ numberOf keep → ⊥) → (k ≡ v .station → ⊥) →
-      (h : Sighting) (w : Sighting) → lastHeard k es ≡ Some h → lastHeard (v .station) es ≡ Some w → w .turn < h .turn)
+    (h : Sighting) (w : Sighting) → lastHeard k es ≡ Some h → lastHeard (v .station) es ≡ Some w → w .turn < h .turn)

@@ -28,7 +28,7 @@ pub record Evicts (c : Contents) (s keep k : ℕ) : Type 0 where
 pub record Learns (s : Station) (at : Location) (keep : Station) (before after : Contents) : Type 0 where
   pub here : placeOf (after .entries) (numberOf s) ≡ Some at
   pub others :
-    (k : ℕ) → (k ≡ numberOf s → ⊥) → (find k (after .entries) ≡ find k (before .entries)) ⊎ ((find k (after .entries) ≡ None) × Evicts before (numberOf s) (numberOf keep) k)
+      (k : ℕ) → (k ≡ numberOf s → ⊥) → (find k (after .entries) ≡ find k (before .entries)) ⊎ ((find k (after .entries) ≡ None) × Evicts before (numberOf s) (numberOf keep) k)
   pub safe : (numberOf keep ≡ numberOf s → ⊥) → find (numberOf keep) (after .entries) ≡ find (numberOf keep) (before .entries)
   pub sound : Sound after
 

@@ -1,10 +1,11 @@
 // Forgetting what was not heard of for long.
 ghost use mathlib.Core.Path.{_≡_};
+ghost use mathlib.Core.Bool.{true};
 ghost use Prim.Native.Nat.{_≤_};
 ghost use lib.ListN.{length, take};
-ghost use Rattle.fdb.specs.Entries.{fresh, remembered};
+ghost use Rattle.std.specs.Of.Vec.{vec-items, vec-len, vec-cap};
+ghost use Rattle.fdb.specs.Entries.{ascending, fresh, remembered};
 ghost use Rattle.fdb.specs.Contents.{aged};
-ghost use Rattle.fdb.specs.Ageing.{Forgets};
 ghost use Rattle.fdb.specs.Held.{contents};
 use crate::entry::Entry;
 use crate::table::Table;
@@ -35,13 +36,23 @@ fn keep_fresh(entries: &mut [Entry], tick: u64) -> usize
     count
 }
 
+// Forgets what is old, in place.
+fn drop_old(entries: &mut Vec<Entry>, tick: u64)
+    requires { ⌜ ascending (vec-items (now entries)) ≡ true ⌝ }
+    ensures items { λ _. ⌜ vec-items (now (entries .exit)) ≡ remembered tick (vec-items (now (entries .entry))) ⌝ }
+    ensures sorted { λ _. ⌜ ascending (vec-items (now (entries .exit))) ≡ true ⌝ }
+    ensures len { λ _. ⌜ vec-len (now (entries .exit)) ≤ vec-len (now (entries .entry)) ⌝ }
+    ensures capacity { λ _. ⌜ vec-cap (now (entries .exit)) ≡ vec-cap (now (entries .entry)) ⌝ }
+{
+    let count = keep_fresh(entries.as_mut_slice(), tick);
+    entries.truncate(count);
+}
+
 impl Table {
     // A tick has come: what was not heard of for 300 ticks is forgotten.
     pub fn forget(&mut self, tick: u64)
-        ensures after { λ _. ⌜ contents (now (self .exit)) ≡ aged tick (contents (now (self .entry))) ⌝ }
-        ensures forgets { λ _. ⌜ Forgets tick (contents (now (self .entry))) (contents (now (self .exit))) ⌝ }
+        ensures { λ _. ⌜ contents (now (self .exit)) ≡ aged tick (contents (now (self .entry))) ⌝ }
     {
-        let count = keep_fresh(self.entries.as_mut_slice(), tick);
-        self.entries.truncate(count);
+        drop_old(&mut self.entries, tick);
     }
 }

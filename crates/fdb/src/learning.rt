@@ -1,14 +1,14 @@
 // Making a table, looking a station up, and learning where one is.
 ghost use mathlib.Core.Path.{_≡_};
-ghost use mathlib.Core.Bool.{true, false};
+ghost use mathlib.Core.Bool.{true};
 ghost use Prim.Native.Nat.{_+_, _<_, _≤_};
+ghost use lib.Dec.{leb};
+ghost use lib.ListN.{length};
 ghost use Rattle.std.specs.Vec.{made};
 ghost use Rattle.std.specs.Of.Vec.{vec-items, vec-len, vec-cap};
 ghost use Rattle.std.specs.declared.option.Option.the-variants.{None};
-ghost use Rattle.fdb.specs.Address.{groupAddress};
 ghost use Rattle.fdb.specs.Entries.{ascending, find, put, placeOf};
-ghost use Rattle.fdb.specs.Contents.{empty, learned, learnt, roomFor, numberOf};
-ghost use Rattle.fdb.specs.Learning.{Learns};
+ghost use Rattle.fdb.specs.Contents.{empty, most, learned, learnt, roomFor, numberOf};
 ghost use Rattle.fdb.specs.Held.{held, contents};
 use crate::entry::Entry;
 use crate::entry::Location;
@@ -34,19 +34,24 @@ fn insert(entries: &mut Vec<Entry>, entry: Entry)
     }
 }
 
+fn is_full(entries: &[Entry]) -> bool
+    ensures { λ r. ⌜ r ≡ leb most (length (now (entries .entry))) ⌝ }
+{
+    entries.len() >= MOST
+}
+
 // Makes room for one more: of a full table the longest unheard of goes, but not the station that is kept.
 fn make_room(entries: &mut Vec<Entry>, keep: u64)
     requires sorted { ⌜ ascending (vec-items (now entries)) ≡ true ⌝ }
-    requires most { ⌜ vec-len (now entries) ≤ 4096 ⌝ }
+    requires within { ⌜ vec-len (now entries) ≤ 4096 ⌝ }
     ensures items { λ _. ⌜ vec-items (now (entries .exit)) ≡ roomFor keep (vec-items (now (entries .entry))) ⌝ }
     ensures room { λ _. ⌜ vec-len (now (entries .exit)) < 4096 ⌝ }
     ensures capacity { λ _. ⌜ vec-cap (now (entries .exit)) ≡ vec-cap (now (entries .entry)) ⌝ }
 {
-    if entries.len() < MOST {
-        return;
-    }
-    if let Some(i) = oldest_but(entries.as_slice(), keep) {
-        let _ = entries.remove(i);
+    if is_full(entries.as_slice()) {
+        if let Some(i) = oldest_but(entries.as_slice(), keep) {
+            let _ = entries.remove(i);
+        }
     }
 }
 
@@ -99,8 +104,7 @@ impl Table {
 
     // A station was heard at a place and a tick, in a frame for the station `keep`: a known one is refreshed, or has moved; a new one is taken in.
     pub fn learn(&mut self, station: Station, location: Location, tick: u64, keep: Station)
-        ensures after { λ _. ⌜ contents (now (self .exit)) ≡ learnt station location tick keep (contents (now (self .entry))) ⌝ }
-        ensures learns { λ _. ⌜ (groupAddress (station .address) ≡ false → Learns station location keep (contents (now (self .entry))) (contents (now (self .exit)))) ⌝ }
+        ensures { λ _. ⌜ contents (now (self .exit)) ≡ learnt station location tick keep (contents (now (self .entry))) ⌝ }
     {
         if station.is_group() {
             return;

@@ -1,8 +1,8 @@
 // A station: an address and a VLAN, and the one number that the table compares.
 ghost use mathlib.Core.Path.{_≡_};
-ghost use Prim.Native.Nat.{ℕ, _<_, _≤_};
+ghost use Prim.Native.Nat.{_<_, _≤_, _^_};
 ghost use Rattle.std.specs.Options.{Cases as BySome};
-ghost use Rattle.fdb.specs.Address.{stationNumber, groupAddress};
+ghost use Rattle.fdb.specs.Address.{addressNumber, stationNumber, groupAddress};
 
 // What the forwarding database learns of: the same address in two VLANs is two stations.
 #[derive(Clone, Copy)]
@@ -10,6 +10,15 @@ pub struct Station {
     pub address: [u8; 6],
     pub vlan: u16,
     ghost tagged: { vlan < 4096 },
+}
+
+// An address as one number of 48 bits.
+fn address_number(address: [u8; 6]) -> u64
+    ensures value { λ r. ⌜ r ≡ addressNumber address ⌝ }
+    ensures bound { λ r. ⌜ r < 2 ^ 48 ⌝ }
+{
+    let [a, b, c, d, e, f] = address;
+    u64::from_be_bytes([0, 0, a, b, c, d, e, f])
 }
 
 impl Station {
@@ -28,8 +37,7 @@ impl Station {
     pub fn number(self) -> u64
         ensures { λ r. ⌜ r ≡ stationNumber (self .address) (self .vlan) ⌝ }
     {
-        let [a, b, c, d, e, f] = self.address;
-        u64::from_be_bytes([0, 0, a, b, c, d, e, f]) * 4096 + u64::from(self.vlan)
+        address_number(self.address) * 4096 + u64::from(self.vlan)
     }
 
     // Whether the address is that of a group: such a one sends nothing, and is never learnt.
