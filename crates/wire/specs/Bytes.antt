@@ -1,7 +1,8 @@
 -- Numbers in bytes, high byte first, and the sum at the end of a message.
 use mathlib.Core.List.{List, [], _∷_, _++_}
+use mathlib.Core.Path.{_≡_}
 use mathlib.Core.Bool.{Bool, _&&_}
-use Prim.Native.Nat.{ℕ, zero, suc, _+_, _-_, _*_, _/_, _%_}
+use Prim.Native.Nat.{ℕ, zero, suc, _+_, _-_, _*_, _/_, _%_, _≤_}
 use lib.Dec.{eqb, leb}
 use lib.ListN.{length, getD, take}
 use Rattle.crc.specs.Crc.{crcOf}
@@ -18,6 +19,10 @@ four b i = getD b i 0 * 16777216 + getD b (i + 1) 0 * 65536 + getD b (i + 2) 0 *
 
 abbrev pub six : List ℕ → ℕ → ℕ
 six b i = two b i * 4294967296 + four b (i + 2)
+
+-- where a reader of n bytes is that has found too few from a place on: at their end
+abbrev pub Spent : ℕ → ℕ → ℕ → Type 0
+Spent n from at-end = (from ≤ n → at-end ≡ n) × (n ≤ from → at-end ≡ from)
 
 -- the bytes of a number
 abbrev pub inTwo : ℕ → List ℕ

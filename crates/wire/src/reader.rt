@@ -2,7 +2,7 @@
 ghost use Prim.Native.Nat.{ℕ, _+_, _<_, _≤_, _^_};
 ghost use Rattle.std.specs.Options.{Cases as BySome};
 ghost use Rattle.std.specs.Results.{Cases as ByOk};
-ghost use Rattle.wire.specs.Bytes.{four, six, three, two};
+ghost use Rattle.wire.specs.Bytes.{Spent, four, six, three, two};
 ghost use Rattle.wire.specs.TreeIds.{TreeIdSays};
 ghost use lib.ListN.{drop, getD, length, take};
 ghost use mathlib.Core.Path.{_≡_};
@@ -42,7 +42,7 @@ impl<'a> Reader<'a> {
     // The number in the next two bytes.
     pub fn two(&mut self) -> Option<u16>
         ensures same { λ _. ⌜ now (now (self .exit) .bytes) ≡ now (now (self .entry) .bytes) ⌝ }
-        ensures cases { λ r. ⌜ BySome r (length (now (now (self .entry) .bytes)) < now (self .entry) .pos + 2) (λ n. (now (self .entry) .pos + 2 ≤ length (now (now (self .entry) .bytes))) × (n ≡ two (now (now (self .entry) .bytes)) (now (self .entry) .pos)) × (now (self .exit) .pos ≡ now (self .entry) .pos + 2)) ⌝ }
+        ensures cases { λ r. ⌜ BySome r ((length (now (now (self .entry) .bytes)) < now (self .entry) .pos + 2) × Spent (length (now (now (self .entry) .bytes))) (now (self .entry) .pos) (now (self .exit) .pos)) (λ n. (now (self .entry) .pos + 2 ≤ length (now (now (self .entry) .bytes))) × (n ≡ two (now (now (self .entry) .bytes)) (now (self .entry) .pos)) × (now (self .exit) .pos ≡ now (self .entry) .pos + 2)) ⌝ }
     {
         let a = self.byte()?;
         let b = self.byte()?;
@@ -52,7 +52,7 @@ impl<'a> Reader<'a> {
     // The number in the next four bytes.
     pub fn four(&mut self) -> Option<u32>
         ensures same { λ _. ⌜ now (now (self .exit) .bytes) ≡ now (now (self .entry) .bytes) ⌝ }
-        ensures cases { λ r. ⌜ BySome r (length (now (now (self .entry) .bytes)) < now (self .entry) .pos + 4) (λ n. (now (self .entry) .pos + 4 ≤ length (now (now (self .entry) .bytes))) × (n ≡ four (now (now (self .entry) .bytes)) (now (self .entry) .pos)) × (now (self .exit) .pos ≡ now (self .entry) .pos + 4)) ⌝ }
+        ensures cases { λ r. ⌜ BySome r ((length (now (now (self .entry) .bytes)) < now (self .entry) .pos + 4) × Spent (length (now (now (self .entry) .bytes))) (now (self .entry) .pos) (now (self .exit) .pos)) (λ n. (now (self .entry) .pos + 4 ≤ length (now (now (self .entry) .bytes))) × (n ≡ four (now (now (self .entry) .bytes)) (now (self .entry) .pos)) × (now (self .exit) .pos ≡ now (self .entry) .pos + 4)) ⌝ }
     {
         let a = self.byte()?;
         let b = self.byte()?;
@@ -64,7 +64,7 @@ impl<'a> Reader<'a> {
     // The number in the next six bytes.
     pub fn six(&mut self) -> Option<u64>
         ensures same { λ _. ⌜ now (now (self .exit) .bytes) ≡ now (now (self .entry) .bytes) ⌝ }
-        ensures cases { λ r. ⌜ BySome r (length (now (now (self .entry) .bytes)) < now (self .entry) .pos + 6) (λ n. (now (self .entry) .pos + 6 ≤ length (now (now (self .entry) .bytes))) × (n ≡ six (now (now (self .entry) .bytes)) (now (self .entry) .pos)) × (n < 2 ^ 48) × (now (self .exit) .pos ≡ now (self .entry) .pos + 6)) ⌝ }
+        ensures cases { λ r. ⌜ BySome r ((length (now (now (self .entry) .bytes)) < now (self .entry) .pos + 6) × Spent (length (now (now (self .entry) .bytes))) (now (self .entry) .pos) (now (self .exit) .pos)) (λ n. (now (self .entry) .pos + 6 ≤ length (now (now (self .entry) .bytes))) × (n ≡ six (now (now (self .entry) .bytes)) (now (self .entry) .pos)) × (n < 2 ^ 48) × (now (self .exit) .pos ≡ now (self .entry) .pos + 6)) ⌝ }
     {
         let a = self.byte()?;
         let b = self.byte()?;
@@ -78,7 +78,7 @@ impl<'a> Reader<'a> {
     // The count of a link state in the next six bytes.
     pub fn count(&mut self) -> Option<Count>
         ensures same { λ _. ⌜ now (now (self .exit) .bytes) ≡ now (now (self .entry) .bytes) ⌝ }
-        ensures cases { λ r. ⌜ BySome r (length (now (now (self .entry) .bytes)) < now (self .entry) .pos + 6) (λ n. (now (self .entry) .pos + 6 ≤ length (now (now (self .entry) .bytes))) × (n .value ≡ six (now (now (self .entry) .bytes)) (now (self .entry) .pos)) × (now (self .exit) .pos ≡ now (self .entry) .pos + 6)) ⌝ }
+        ensures cases { λ r. ⌜ BySome r ((length (now (now (self .entry) .bytes)) < now (self .entry) .pos + 6) × Spent (length (now (now (self .entry) .bytes))) (now (self .entry) .pos) (now (self .exit) .pos)) (λ n. (now (self .entry) .pos + 6 ≤ length (now (now (self .entry) .bytes))) × (n .value ≡ six (now (now (self .entry) .bytes)) (now (self .entry) .pos)) × (now (self .exit) .pos ≡ now (self .entry) .pos + 6)) ⌝ }
     {
         let n = self.six()?;
         Count::new(n)
@@ -87,7 +87,7 @@ impl<'a> Reader<'a> {
     // The next address.
     pub fn address(&mut self) -> Option<[u8; 6]>
         ensures same { λ _. ⌜ now (now (self .exit) .bytes) ≡ now (now (self .entry) .bytes) ⌝ }
-        ensures cases { λ r. ⌜ BySome r (length (now (now (self .entry) .bytes)) < now (self .entry) .pos + 6) (λ a. (now (self .entry) .pos + 6 ≤ length (now (now (self .entry) .bytes))) × (a ≡ take 6 (drop (now (self .entry) .pos) (now (now (self .entry) .bytes)))) × (now (self .exit) .pos ≡ now (self .entry) .pos + 6)) ⌝ }
+        ensures cases { λ r. ⌜ BySome r ((length (now (now (self .entry) .bytes)) < now (self .entry) .pos + 6) × (now (self .exit) .pos ≡ now (self .entry) .pos)) (λ a. (now (self .entry) .pos + 6 ≤ length (now (now (self .entry) .bytes))) × (a ≡ take 6 (drop (now (self .entry) .pos) (now (now (self .entry) .bytes)))) × (now (self .exit) .pos ≡ now (self .entry) .pos + 6)) ⌝ }
     {
         let part = self.part(6)?;
         let mut array = [0; 6];
@@ -98,7 +98,7 @@ impl<'a> Reader<'a> {
     // The next sixteen bytes as they stand.
     pub fn sixteen(&mut self) -> Option<[u8; 16]>
         ensures same { λ _. ⌜ now (now (self .exit) .bytes) ≡ now (now (self .entry) .bytes) ⌝ }
-        ensures cases { λ r. ⌜ BySome r (length (now (now (self .entry) .bytes)) < now (self .entry) .pos + 16) (λ a. (now (self .entry) .pos + 16 ≤ length (now (now (self .entry) .bytes))) × (a ≡ take 16 (drop (now (self .entry) .pos) (now (now (self .entry) .bytes)))) × (now (self .exit) .pos ≡ now (self .entry) .pos + 16)) ⌝ }
+        ensures cases { λ r. ⌜ BySome r ((length (now (now (self .entry) .bytes)) < now (self .entry) .pos + 16) × (now (self .exit) .pos ≡ now (self .entry) .pos)) (λ a. (now (self .entry) .pos + 16 ≤ length (now (now (self .entry) .bytes))) × (a ≡ take 16 (drop (now (self .entry) .pos) (now (now (self .entry) .bytes)))) × (now (self .exit) .pos ≡ now (self .entry) .pos + 16)) ⌝ }
     {
         let part = self.part(16)?;
         let mut array = [0; 16];
@@ -109,7 +109,7 @@ impl<'a> Reader<'a> {
     // The next bytes, lent on.
     pub fn part(&mut self, count: usize) -> Option<&'a [u8]>
         ensures same { λ _. ⌜ now (now (self .exit) .bytes) ≡ now (now (self .entry) .bytes) ⌝ }
-        ensures cases { λ r. ⌜ BySome r (length (now (now (self .entry) .bytes)) < now (self .entry) .pos + count) (λ a. (now (self .entry) .pos + count ≤ length (now (now (self .entry) .bytes))) × (length (now a) ≡ count) × (now a ≡ take count (drop (now (self .entry) .pos) (now (now (self .entry) .bytes)))) × (now (self .exit) .pos ≡ now (self .entry) .pos + count)) ⌝ }
+        ensures cases { λ r. ⌜ BySome r ((length (now (now (self .entry) .bytes)) < now (self .entry) .pos + count) × (now (self .exit) .pos ≡ now (self .entry) .pos)) (λ a. (now (self .entry) .pos + count ≤ length (now (now (self .entry) .bytes))) × (length (now a) ≡ count) × (now a ≡ take count (drop (now (self .entry) .pos) (now (now (self .entry) .bytes)))) × (now (self .exit) .pos ≡ now (self .entry) .pos + count)) ⌝ }
     {
         if self.pos > self.bytes.len() {
             return None;
@@ -126,7 +126,7 @@ impl<'a> Reader<'a> {
     // The number of a bridge in the next byte.
     pub fn bridge(&mut self) -> Result<BridgeId, Fault>
         ensures same { λ _. ⌜ now (now (self .exit) .bytes) ≡ now (now (self .entry) .bytes) ⌝ }
-        ensures cases { λ r. ⌜ ByOk r (λ b. (now (self .entry) .pos + 1 ≤ length (now (now (self .entry) .bytes))) × (getD (now (now (self .entry) .bytes)) (now (self .entry) .pos) 0 < 128) × (b .value ≡ getD (now (now (self .entry) .bytes)) (now (self .entry) .pos) 0) × (now (self .exit) .pos ≡ now (self .entry) .pos + 1)) (λ e. (now (self .entry) .pos + 1 ≤ length (now (now (self .entry) .bytes)) → (128 ≤ getD (now (now (self .entry) .bytes)) (now (self .entry) .pos) 0) × (e ≡ Fault.NotThere)) × (length (now (now (self .entry) .bytes)) < now (self .entry) .pos + 1 → e ≡ Fault.Malformed)) ⌝ }
+        ensures cases { λ r. ⌜ ByOk r (λ b. (now (self .entry) .pos + 1 ≤ length (now (now (self .entry) .bytes))) × (getD (now (now (self .entry) .bytes)) (now (self .entry) .pos) 0 < 128) × (b .value ≡ getD (now (now (self .entry) .bytes)) (now (self .entry) .pos) 0) × (now (self .exit) .pos ≡ now (self .entry) .pos + 1)) (λ e. (now (self .entry) .pos + 1 ≤ length (now (now (self .entry) .bytes)) → (128 ≤ getD (now (now (self .entry) .bytes)) (now (self .entry) .pos) 0) × (e ≡ Fault.NotThere) × (now (self .exit) .pos ≡ now (self .entry) .pos + 1)) × (length (now (now (self .entry) .bytes)) < now (self .entry) .pos + 1 → (e ≡ Fault.Malformed) × (now (self .exit) .pos ≡ now (self .entry) .pos))) ⌝ }
     {
         let Some(value) = self.byte() else {
             return Err(Fault::Malformed);
@@ -140,7 +140,7 @@ impl<'a> Reader<'a> {
     // The number in the next three bytes.
     pub fn three(&mut self) -> Option<u32>
         ensures same { λ _. ⌜ now (now (self .exit) .bytes) ≡ now (now (self .entry) .bytes) ⌝ }
-        ensures cases { λ r. ⌜ BySome r (length (now (now (self .entry) .bytes)) < now (self .entry) .pos + 3) (λ n. (now (self .entry) .pos + 3 ≤ length (now (now (self .entry) .bytes))) × (n ≡ three (now (now (self .entry) .bytes)) (now (self .entry) .pos)) × (n < 2 ^ 24) × (now (self .exit) .pos ≡ now (self .entry) .pos + 3)) ⌝ }
+        ensures cases { λ r. ⌜ BySome r ((length (now (now (self .entry) .bytes)) < now (self .entry) .pos + 3) × Spent (length (now (now (self .entry) .bytes))) (now (self .entry) .pos) (now (self .exit) .pos)) (λ n. (now (self .entry) .pos + 3 ≤ length (now (now (self .entry) .bytes))) × (n ≡ three (now (now (self .entry) .bytes)) (now (self .entry) .pos)) × (n < 2 ^ 24) × (now (self .exit) .pos ≡ now (self .entry) .pos + 3)) ⌝ }
     {
         let a = self.byte()?;
         let b = self.byte()?;
@@ -151,7 +151,7 @@ impl<'a> Reader<'a> {
     // The number of a tree in the next eight bytes.
     pub fn tree_id(&mut self) -> Result<TreeId, Fault>
         ensures same { λ _. ⌜ now (now (self .exit) .bytes) ≡ now (now (self .entry) .bytes) ⌝ }
-        ensures cases { λ r. ⌜ ByOk r (λ t. (now (self .entry) .pos + 8 ≤ length (now (now (self .entry) .bytes))) × (getD (now (now (self .entry) .bytes)) (now (self .entry) .pos + 4) 0 < 128) × TreeIdSays (now (now (self .entry) .bytes)) (now (self .entry) .pos) t × (now (self .exit) .pos ≡ now (self .entry) .pos + 8)) (λ e. (now (self .entry) .pos + 8 ≤ length (now (now (self .entry) .bytes)) → (128 ≤ getD (now (now (self .entry) .bytes)) (now (self .entry) .pos + 4) 0) × (e ≡ Fault.NotThere)) × (length (now (now (self .entry) .bytes)) < now (self .entry) .pos + 8 → e ≡ Fault.Malformed)) ⌝ }
+        ensures cases { λ r. ⌜ ByOk r (λ t. (now (self .entry) .pos + 8 ≤ length (now (now (self .entry) .bytes))) × (getD (now (now (self .entry) .bytes)) (now (self .entry) .pos + 4) 0 < 128) × TreeIdSays (now (now (self .entry) .bytes)) (now (self .entry) .pos) t × (now (self .exit) .pos ≡ now (self .entry) .pos + 8)) (λ e. (now (self .entry) .pos + 8 ≤ length (now (now (self .entry) .bytes)) → (128 ≤ getD (now (now (self .entry) .bytes)) (now (self .entry) .pos + 4) 0) × (e ≡ Fault.NotThere) × (now (self .exit) .pos ≡ now (self .entry) .pos + 8)) × (length (now (now (self .entry) .bytes)) < now (self .entry) .pos + 8 → (e ≡ Fault.Malformed) × Spent (length (now (now (self .entry) .bytes))) (now (self .entry) .pos) (now (self .exit) .pos))) ⌝ }
     {
         let Some(seq) = self.four() else {
             return Err(Fault::Malformed);
