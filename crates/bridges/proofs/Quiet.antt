@@ -34,6 +34,7 @@ quiet-holds lax r t f d e w h = go e w h
   where
     P : (ℕ → List ℕ) → World → Type 0
     P hs v = v .holds ≡ hs
+
     go : (e : Event) (w : World) → quiet t f d w e ≡ true → happen lax r e w .holds ≡ w .holds
     go (Send a b) w h = send-by lax r (P (w .holds)) a b w refl (λ _ _ _ _ _ _. refl)
     go (Arrive i) w h = arrive-by lax r (P (w .holds)) i (w .copies) (with-copies (without i (w .copies)) w) (λ _. refl) (λ _ _ _. refl) (λ _ _ _ _ _. refl)
@@ -59,6 +60,7 @@ quiet-open lax r t f d e w h k = go e w h k
   where
     P : World → Type 0
     P v = Open (r .bridges) t (v .up)
+
     go : (e : Event) (w : World) → quiet t f d w e ≡ true → P w → P (happen lax r e w)
     go (Send a b) w h k = send-by lax r P a b w k (λ _ _ _ _ _ _. k)
     go (Arrive i) w h k = arrive-by lax r P i (w .copies) (with-copies (without i (w .copies)) w) (λ _. k) (λ _ _ _. k) (λ _ _ _ _ _. k)
@@ -87,9 +89,11 @@ quiet-known lax r t f d e w h g k = go e w h g k
   where
     P : World → Type 0
     P v = AllKnow (r .bridges) (t .number) d (v .learned)
+
     came : (bs : List ℕ) → cameBy bs ≡ Unknown → ⊥
     came [] e = grind arith
     came (b ∷ bs) e = grind arith
+
     go : (e : Event) (w : World) → quiet t f d w e ≡ true → forgets (t .number) d e ≡ false → P w → P (happen lax r e w)
     go (Send a b) w h g k = send-by lax r P a b w k (λ _ _ _ _ _ _. k)
     go (Arrive i) w h g k = arrive-by lax r P i (w .copies) (with-copies (without i (w .copies)) w) (λ _. k) (λ _ _ _. k)
@@ -118,6 +122,7 @@ given-step lax r Q e w h k = go e w h k
   where
     P : World → Type 0
     P v = (g : Got) → List·Memᴰ g (v .got) → Q g
+
     go : (e : Event) (w : World) →
         ((x : Copy) (v : World) (s : ℕ) → List·Memᴰ x (w .copies) → v .home ≡ w .home → mayHand lax r v x (goesBy lax x (knows w x)) s ≡ true → Q (record { frame = x .frame .number; station = s; bridge = x .at })) →
         P w → P (happen lax r e w)

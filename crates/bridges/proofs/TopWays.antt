@@ -30,8 +30,9 @@ below-fewer : (k : ℕ) (p q : ℕ → Bool) → ((c : ℕ) → p c ≡ true →
 unfolding countBelow
 below-fewer zero p q h a lt x y = absurd (omega arith)
 below-fewer (suc k) p q h a lt x y = elim (ℕ-discrete a k) [
-    yes e ↦ (let l = below-less k p q h in let u = one-same (p k) false (ap p (sym e) ∙ x) in let v = one-same (q k) true (ap q (sym e) ∙ y) in omega arith)
-  | no ne ↦ (let ih = below-fewer k p q h a (omega arith) x y in let e = le (p k) (q k) (h k) in omega arith) ]
+  | yes e ↦ (let l = below-less k p q h in let u = one-same (p k) false (ap p (sym e) ∙ x) in let v = one-same (q k) true (ap q (sym e) ∙ y) in omega arith)
+  | no ne ↦ (let ih = below-fewer k p q h a (omega arith) x y in let e = le (p k) (q k) (h k) in omega arith)
+]
   where
     le : (a b : Bool) → (a ≡ true → b ≡ true) → one a ≤ one b
     le a b h = grind arith
@@ -55,6 +56,7 @@ module _ (n : ℕ) (t : Tree) (l : looks n t ≡ true) where
     where
       further : (c a x : ℕ) → a < x → ltb c a ≡ true → ltb c x ≡ true
       further c a x f h = grind (arith, tells)
+
       not-self : (a : ℕ) → ltb a a ≡ false
       not-self a = grind (arith, tells)
 
@@ -64,6 +66,7 @@ module _ (n : ℕ) (t : Tree) (l : looks n t ≡ true) where
     where
       all-below : {a b c : ℕ} → a < b → b ≤ c → a < c
       all-below p q = omega arith
+
       not-self : (a : ℕ) → ltb a a ≡ false
       not-self a = grind (arith, tells)
 
@@ -79,6 +82,7 @@ module _ (n : ℕ) (t : Tree) (l : looks n t ≡ true) where
       where
         inside : (t .above x ≡ x → ⊥) → x < n
         inside k = elim (decLt x n) [ yes lt ↦ lt | no nl ↦ absurd (k (out x (omega arith))) ]
+
         go : (b : Bool) → eqb (t .above x) x ≡ b → isIn c (cond b (x ∷ []) (x ∷ topWay k t (t .above x))) ≡ true → (x ≡ c → ⊥) → (isIn c (topWay k t (t .above x)) ≡ true → Under n t c (t .above x)) → Under n t c x
         go true e h ne ih = absurd (grind (arith, tells))
         go false e h ne ih = more (inside (eqb-false _ _ e)) (ih (grind (arith, tells)))
@@ -97,8 +101,10 @@ module _ (n : ℕ) (t : Tree) (l : looks n t ≡ true) where
       where
         first-is : (a b : Bool) → a ≡ true → (a || b) ≡ true
         first-is a b h = grind arith
+
         second-is : (a b : Bool) → b ≡ true → (a || b) ≡ true
         second-is a b h = grind arith
+
         lower : t .above x < n → (t .above x ≡ x → ⊥) → rank x < suc k → rank (t .above x) < k
         lower la ne le = elim (nearer n t l x lt) [ inl q ↦ absurd (ne q) | inr f ↦ less (rank-falls x (t .above x) la f) le ]
           where

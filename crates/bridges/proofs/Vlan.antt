@@ -39,8 +39,10 @@ module _ (P : Frame → Type 0) (Q : Got → Type 0) where
       where
         known : Where
         known = goesBy lax x (knows w x)
+
         same : (y : Copy) → Onward t (w .up) x known (r .bridges) y → P (y .frame)
         same y o = subst (λ z. P (z .frame)) (sym (o .is)) p
+
         new : (g : Got) → (s : ℕ) × (g ≡ record { frame = x .frame .number; station = s; bridge = x .at }) × (mayHand lax r w x known s ≡ true) → Q g
         new g h = subst (λ z. Q z) (sym (h .1)) (give w x known (h .0) p (h .2))
 
@@ -49,7 +51,9 @@ module _ (P : Frame → Type 0) (Q : Got → Type 0) where
         Carried w → Carried (happen lax r e w)
     unfolding sendBy
     carried-step (Send s d) w new c = send-by lax r Carried s d w c (λ n ns h l ls ld. record {
-      frames = λ x m. elim (List·Memᴰ·cases-cons m) [ inl q ↦ subst (λ z. P (z .frame)) (sym q) (new s d n ns refl h l ls ld) | inr m′ ↦ c .frames x m′ ]; given = c .given })
+      frames = λ x m. elim (List·Memᴰ·cases-cons m) [ inl q ↦ subst (λ z. P (z .frame)) (sym q) (new s d n ns refl h l ls ld) | inr m′ ↦ c .frames x m′ ];
+      given = c .given;
+    })
     carried-step (Arrive i) w new c = let less = carried-less i w c in arrive-by lax r Carried i (w .copies) (with-copies (without i (w .copies)) w) (λ _. less) (λ _ _ _. less)
         (λ x t p _ _. carried-forward x t (with-copies (without i (w .copies)) w) (c .frames x (pick-mem p)) less)
     carried-step (Lose i) w new c = carried-less i w c
@@ -100,14 +104,18 @@ module _ (lax : Bool) (r : Rules) where
   unfolding run sentBy
   all-named [] = record { frames = λ x m. absurd (List·Memᴰ·not-nil m); given = λ g m. absurd (List·Memᴰ·not-nil m) }
   all-named (e ∷ es) = carried-step (Named lax r (e ∷ es)) (Rightly lax r (e ∷ es)) lax r (rightly (e ∷ es)) e (run lax r es) new
-      (let c = all-named es in record { frames = λ x m. let p = c .frames x m in (sent-stays lax r e es (x .frame .number) (x .frame .from) (x .frame .to) (p .0), p .1);
-        given = λ g m. let q = c .given g m in (q .0, q .1, sent-stays lax r e es (g .frame) (q .0) (q .1) (q .2), q .3, q .4) })
+      (let c = all-named es in record {
+        frames = λ x m. let p = c .frames x m in (sent-stays lax r e es (x .frame .number) (x .frame .from) (x .frame .to) (p .0), p .1);
+        given = λ g m. let q = c .given g m in (q .0, q .1, sent-stays lax r e es (g .frame) (q .0) (q .1) (q .2), q .3, q .4);
+      })
     where
       w : World
       w = run lax r es
+
       made : (p : Bool) (a f s d : ℕ) (hs : List ℕ) (n : ℕ) (ns : List ℕ) (o : Bool) → hs ≡ n ∷ ns → p ≡ true → s < a → d < a → (((p && (ltb s a && ltb d a)) && some hs) && (eqb f f && (eqb s s && eqb d d)) || o) ≡ true
       made p a f s d [] n ns o e h ls ld = absurd (grind arith)
       made p a f s d (m ∷ ms) n ns o e h ls ld = grind (arith, tells)
+
       new : (s d n : ℕ) (ns : List ℕ) → e ≡ Send s d → w .holds (w .home s) ≡ n ∷ ns → (lax || ltb (w .home s) (r .bridges)) ≡ true → s < r .stations → d < r .stations → Named lax r (e ∷ es) (new-frame r w s d n)
       new s d n ns q h l ls ld = (subst (λ z. sentBy lax r (z ∷ es) (w .next) s d ≡ true) (sym q) (made (lax || ltb (w .home s) (r .bridges)) (r .stations) (w .next) s d (w .holds (w .home s)) n ns (sentBy lax r es (w .next) s d) h l ls ld), refl)
 
@@ -121,10 +129,13 @@ next-grows lax r e w = go e w
   where
     P : ℕ → World → Type 0
     P n v = n ≤ v .next
+
     same : (n : ℕ) → n ≤ n
     same n = omega arith
+
     one-up : (n : ℕ) → n ≤ suc n
     one-up n = omega arith
+
     go : (e : Event) (w : World) → w .next ≤ happen lax r e w .next
     go (Send s d) w = send-by lax r (P (w .next)) s d w (same (w .next)) (λ n ns _ _ _ _. one-up (w .next))
     go (Arrive i) w = arrive-by lax r (P (w .next)) i (w .copies) (with-copies (without i (w .copies)) w) (λ _. same (w .next)) (λ _ _ _. same (w .next)) (λ _ _ _ _ _. same (w .next))
@@ -158,8 +169,9 @@ module _ (lax : Bool) (r : Rules) where
   sent-before (Send a b ∷ es) f s d h =
       let w = run lax r es in
       elim (either-sent (makes lax r w a b) (eqb (w .next) f) (eqb a s && eqb b d) (sentBy lax r es f s d) h) [
-        inl q ↦ let n = makes-next lax r w a b (q .0) in let e = eqb-true (w .next) f (q .1) in grind (arith, n, e)
-      | inr q ↦ let n = next-grows lax r (Send a b) w in let i = sent-before es f s d q in grind (arith, n, i) ]
+        | inl q ↦ let n = makes-next lax r w a b (q .0) in let e = eqb-true (w .next) f (q .1) in grind (arith, n, e)
+        | inr q ↦ let n = next-grows lax r (Send a b) w in let i = sent-before es f s d q in grind (arith, n, i)
+      ]
   sent-before (Arrive i ∷ es) f s d h = let n = next-grows lax r (Arrive i) (run lax r es) in let j = sent-before es f s d h in grind (arith, n, j)
   sent-before (Lose i ∷ es) f s d h = sent-before es f s d h
   sent-before (Believe a b c ∷ es) f s d h = sent-before es f s d h
@@ -175,15 +187,19 @@ module _ (lax : Bool) (r : Rules) where
   one-sender [] f s d s′ d′ h k = absurd (grind arith)
   one-sender (Send a b ∷ es) f s d s′ d′ h k =
       elim (either-sent (makes lax r (run lax r es) a b) (eqb (run lax r es .next) f) (eqb a s && eqb b d) (sentBy lax r es f s d) h) [
-        inl p ↦ elim (either-sent (makes lax r (run lax r es) a b) (eqb (run lax r es .next) f) (eqb a s′ && eqb b d′) (sentBy lax r es f s′ d′) k) [
-          inl q ↦ both a b s d s′ d′ (p .2) (q .2)
-        | inr q ↦ absurd (clash f (run lax r es .next) (p .1) (sent-before es f s′ d′ q)) ]
-      | inr p ↦ elim (either-sent (makes lax r (run lax r es) a b) (eqb (run lax r es .next) f) (eqb a s′ && eqb b d′) (sentBy lax r es f s′ d′) k) [
-          inl q ↦ absurd (clash f (run lax r es .next) (q .1) (sent-before es f s d p))
-        | inr q ↦ one-sender es f s d s′ d′ p q ] ]
+        | inl p ↦ elim (either-sent (makes lax r (run lax r es) a b) (eqb (run lax r es .next) f) (eqb a s′ && eqb b d′) (sentBy lax r es f s′ d′) k) [
+          | inl q ↦ both a b s d s′ d′ (p .2) (q .2)
+          | inr q ↦ absurd (clash f (run lax r es .next) (p .1) (sent-before es f s′ d′ q))
+        ]
+        | inr p ↦ elim (either-sent (makes lax r (run lax r es) a b) (eqb (run lax r es .next) f) (eqb a s′ && eqb b d′) (sentBy lax r es f s′ d′) k) [
+          | inl q ↦ absurd (clash f (run lax r es .next) (q .1) (sent-before es f s d p))
+          | inr q ↦ one-sender es f s d s′ d′ p q
+        ]
+      ]
     where
       both : (a b s d s′ d′ : ℕ) → (eqb a s && eqb b d) ≡ true → (eqb a s′ && eqb b d′) ≡ true → (s ≡ s′) × (d ≡ d′)
       both a b s d s′ d′ p q = grind (arith, tells)
+
       clash : (f n : ℕ) → eqb n f ≡ true → f < n → ⊥
       clash f n p q = grind (arith, tells)
   one-sender (Arrive i ∷ es) f s d s′ d′ h k = one-sender es f s d s′ d′ h k

@@ -31,8 +31,9 @@ same-far t e f = omega (arith, ap (t .far) e)
 pub toward-child : (n : ℕ) (t : Tree) (a h : ℕ) → (h ≡ a → ⊥) → Under n t a h → (c : ℕ) × (c < n) × (t .above c ≡ a) × (c ≡ a → ⊥) × Under n t c h
 toward-child n t a h ne (self e) = absurd (ne e)
 toward-child n t a h ne (more lt u) = elim (ℕ-discrete (t .above h) a) [
-    yes e ↦ (h, lt, e, ne, self refl)
-  | no k ↦ let c = toward-child n t a (t .above h) k u in (c .0, c .1, c .2, c .3, more lt (c .4)) ]
+  | yes e ↦ (h, lt, e, ne, self refl)
+  | no k ↦ let c = toward-child n t a (t .above h) k u in (c .0, c .1, c .2, c .3, more lt (c .4))
+]
 
 joined-by-above : (t : Tree) (a c : ℕ) → (t .above a ≡ c) ⊎ (t .above c ≡ a) → (c ≡ a → ⊥) → joined t a c ≡ true
 joined-by-above t a c (inl e) ne = grind (arith, tells)
@@ -47,13 +48,16 @@ module _ (n : ℕ) (t : Tree) (l : looks n t ≡ true) where
 
   pub leads-is : (a c b : ℕ) → a < n → c < n → joined t a c ≡ true → leads n t a c b ≡ true → Leads n t a c b
   leads-is a c b la lc j e = elim (joined-ways n t l la lc j) [
-      inl u ↦ up (u .0) (u .1) (λ w. let b1 = is-below a b w in let ne = λ (q : t .above c ≡ a). both-up (u .1) q in no-way (eqb (t .above c) a) (below n t c b) (below n t a b) (ne-eqb _ _ ne) b1 e)
-    | inr d ↦ down (d .0) (d .1) (below-is c b (yes-way (eqb (t .above c) a) (below n t c b) (below n t a b) (eq-eqb _ _ (d .0)) e)) ]
+    | inl u ↦ up (u .0) (u .1) (λ w. let b1 = is-below a b w in let ne = λ (q : t .above c ≡ a). both-up (u .1) q in no-way (eqb (t .above c) a) (below n t c b) (below n t a b) (ne-eqb _ _ ne) b1 e)
+    | inr d ↦ down (d .0) (d .1) (below-is c b (yes-way (eqb (t .above c) a) (below n t c b) (below n t a b) (eq-eqb _ _ (d .0)) e))
+  ]
     where
       both-up : t .far c < t .far a → t .above c ≡ a → ⊥
       both-up f q = elim (nearer n t l c lc) [ inl q2 ↦ joined-apart t a c j (sym q ∙ q2) | inr g ↦ omega (arith, ap (t .far) q) ]
+
       no-way : (p x y : Bool) → p ≡ false → y ≡ true → cond p x (not y) ≡ true → ⊥
       no-way p x y = grind (arith, tells)
+
       yes-way : (p x y : Bool) → p ≡ true → cond p x (not y) ≡ true → x ≡ true
       yes-way p x y = grind (arith, tells)
 
@@ -78,6 +82,7 @@ module _ (n : ℕ) (t : Tree) (l : looks n t ≡ true) where
       rising : t .above a ≡ b → t .far b < t .far a → Leads n t b c h → Under n t a h → ⊥
       rising e f (down e′ f′ u) v = ne (one-child n t l lc la (λ q. same-far t (sym e′ ∙ q) f′) (e′ ∙ sym e) (λ q. same-far t (sym e ∙ q) f) u v)
       rising e f (up e′ f′ u) v = u (under-trans (more la (self e)) v)
+
       falling : t .above b ≡ a → Leads n t b c h → Under n t b h
       falling e (down e′ f′ u) = under-trans (more lc (self e′)) u
       falling e (up e′ f′ u) = absurd (ne (sym e′ ∙ e))
@@ -104,11 +109,13 @@ module _ (n : ℕ) (t : Tree) (l : looks n t ≡ true) where
     where
       climb : (below n t b h ≡ false) → (t .above b ≡ b → ⊥) → Leads n t b (t .above b) h
       climb e k = elim (nearer n t l b lb) [ inl q ↦ absurd (k q) | inr f ↦ up refl f (λ u. both-ways _ e (is-below b h u)) ]
+
       go : (x : Bool) → below n t b h ≡ x → (c : ℕ) × (c < n) × (joined t b c ≡ true) × Leads n t b c h
       go true e =
           let c = toward-child n t b h (λ q. ne (sym q)) (below-is b h e) in
           let j = joined-by-above t b (c .0) (inr (c .2)) (c .3) in
           (c .0, c .1, j, elim (nearer n t l (c .0) (c .1)) [ inl q ↦ absurd (c .3 (sym q ∙ c .2)) | inr f ↦ down (c .2) (subst (λ y. t .far y < t .far (c .0)) (c .2) f) (c .4) ])
       go false e = elim (ℕ-discrete (t .above b) b) [
-          yes q ↦ absurd (both-ways _ e (is-below b h (top q)))
-        | no k ↦ (t .above b, la, joined-by-above t b (t .above b) (inl refl) k, climb e k) ]
+        | yes q ↦ absurd (both-ways _ e (is-below b h (top q)))
+        | no k ↦ (t .above b, la, joined-by-above t b (t .above b) (inl refl) k, climb e k)
+      ]
