@@ -10,8 +10,33 @@ use Prim.Native.Nat.{ℕ, zero, suc}
 use lib.Dec.{eqb, ltb}
 use Rattle.trees.specs.Tree.{Tree, looks, isIn}
 use Rattle.bridges.specs.Net.{
-    Frame, Copy, Where, Unknown, Here, Behind, Got, Rules, World, Found, NoTree, This, treeOf, cameBy, toward, mayGet, knows, learns, without, with-copies, two,
-    sendBy, announceIf, at, at2, start}
+  Frame,
+  Copy,
+  Where,
+  Unknown,
+  Here,
+  Behind,
+  Got,
+  Rules,
+  World,
+  Found,
+  NoTree,
+  This,
+  treeOf,
+  cameBy,
+  toward,
+  mayGet,
+  knows,
+  learns,
+  without,
+  with-copies,
+  two,
+  sendBy,
+  announceIf,
+  at,
+  at2,
+  start,
+}
 
 -- a station sends a frame, along the newest tree of its bridge; a copy arrives at its bridge, or is lost; a bridge
 -- comes to believe that its link to a neighbour is up, or down; a tree is announced, and adopted; a station moves; a
@@ -47,9 +72,15 @@ handed lax r w x k (suc s) =
 -- what a bridge that has the frame's tree does with a copy: it learns, hands it to stations, and on
 abbrev pub forward : Bool → Rules → Copy → Tree → World → World
 forward lax r x t w = record {
-    home = w .home; up = w .up; trees = w .trees; holds = w .holds; learned = learns x (w .learned);
-    copies = toward t (w .up) x (goesBy lax x (knows w x)) (r .bridges) ++ w .copies;
-    got = handed lax r w x (goesBy lax x (knows w x)) (r .stations) ++ w .got; next = w .next }
+  home = w .home;
+  up = w .up;
+  trees = w .trees;
+  holds = w .holds;
+  learned = learns x (w .learned);
+  copies = toward t (w .up) x (goesBy lax x (knows w x)) (r .bridges) ++ w .copies;
+  got = handed lax r w x (goesBy lax x (knows w x)) (r .stations) ++ w .got;
+  next = w .next;
+}
 
 abbrev pub receive : Bool → Rules → Copy → Found → World → World
 receive lax r x NoTree w = w
@@ -69,8 +100,15 @@ isNewest n (x ∷ xs) = eqb x n
 abbrev pub adoptIf : Bool → Rules → ℕ → ℕ → Found → World → World
 adoptIf lax r b n NoTree w = w
 adoptIf lax r b n (This t) w = cond (not (looks (r .bridges) t) || (not lax && isNewest n (w .holds b))) w (record {
-    home = w .home; up = w .up; trees = w .trees; holds = at b (two (n ∷ w .holds b)) (w .holds); learned = w .learned;
-    copies = w .copies; got = w .got; next = w .next })
+  home = w .home;
+  up = w .up;
+  trees = w .trees;
+  holds = at b (two (n ∷ w .holds b)) (w .holds);
+  learned = w .learned;
+  copies = w .copies;
+  got = w .got;
+  next = w .next;
+})
 
 -- a bridge's belief that a station is at one of its ports, when the port is the right one or not: a wrong port is a
 -- dead end, as if the station were behind the bridge itself, to which it is never joined
@@ -94,8 +132,15 @@ happen lax r (Turn b n s ok) w = record { home = w .home; up = w .up; trees = w 
 -- at first nobody is plugged in: a station at a bridge that isn't there is nowhere
 abbrev pub begin : Bool → Rules → World
 begin lax r = record {
-    home = λ s. cond lax 0 (r .bridges); up = start .up; trees = start .trees; holds = start .holds; learned = start .learned;
-    copies = start .copies; got = start .got; next = start .next }
+  home = λ s. cond lax 0 (r .bridges);
+  up = start .up;
+  trees = start .trees;
+  holds = start .holds;
+  learned = start .learned;
+  copies = start .copies;
+  got = start .got;
+  next = start .next;
+}
 
 -- by events, the latest first
 unfoldable pub run : Bool → Rules → List Event → World

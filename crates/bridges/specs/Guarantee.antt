@@ -140,7 +140,7 @@ pub record Assured (lax : Bool) (r : Rules) (es : List Event) : Type 0 where
       (countGot (run lax r es .next) d (run lax r es .home d) (run lax r (fs ++ (Send s d ∷ es)) .got) ≡ 1) ×
       (countAll (run lax r es .next) d (run lax r (fs ++ (Send s d ∷ es)) .got) ≡ 1) ×
       (((b : ℕ) → b < r .bridges → run lax r es .learned b (t .number) d ≡ Unknown → ⊥) → remembered (t .number) d fs ≡ true →
-        (q : ℕ) → (q ≡ d → ⊥) → countAll (run lax r es .next) q (run lax r (fs ++ (Send s d ∷ es)) .got) ≡ 0)
+      (q : ℕ) → (q ≡ d → ⊥) → countAll (run lax r es .next) q (run lax r (fs ++ (Send s d ∷ es)) .got) ≡ 0)
   pub can-rest : 0 < r .bridges → ((b : ℕ) → b < r .bridges → Linked r (run lax r es) b) →
       (fs : List Event) × T (onlyTrees fs) × (length fs ≤ suc (r .bridges)) × (t : Tree) × (looks (r .bridges) t ≡ true) × Rests r (run lax r (fs ++ es)) t
 

@@ -1,3 +1,6 @@
 pub mod Under
 pub mod Simple
 pub mod Ahead
+pub mod Shapes
+pub mod Ids
+mod Neighbours

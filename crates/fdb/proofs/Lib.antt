@@ -1,0 +1,5 @@
+pub mod Stations
+pub mod Ordered
+pub mod Found
+pub mod Learns
+pub mod Histories

@@ -1,0 +1,5 @@
+pub mod State
+pub mod Holding
+pub mod Faults
+pub mod Replies
+pub mod Ways

@@ -1,0 +1,4 @@
+pub mod Ports
+pub mod Flags
+pub mod Places
+pub mod Outward

@@ -1,0 +1,4 @@
+pub mod Bytes
+pub mod Words
+pub mod Parts
+pub mod Reading

@@ -1,0 +1,4 @@
+// Reads scenario scripts, one command to a line.
+pub mod faults;
+pub mod lines;
+mod verbs;
