@@ -73,8 +73,10 @@ module _ (n : ℕ) (t : Tree) (hw : Whole n t) where
 
     -- a copy to the next bridge on the way has h ahead
     pass-on : (c : ℕ) → c < n → joined t (x .at) c ≡ true → Leads n t (x .at) c h → ((joined t (x .at) c && (v .up (x .at) c && notBack (x .trail) c)) ≡ true) × (ahead n f (v .trees) h (copyTo x c) ≡ true)
-    pass-on c lc j le = (and-from _ _ j (and-from _ _ (open-up (x .at) c at-below lc j) (not-back h (x .at) c (x .trail) w g re le)),
-        and-from _ _ (eq-eqb _ _ ef) (subst (λ u. reach n u h c (x .at ∷ x .trail) ≡ true) (sym e) (is-leads n t (hw .good) (x .at) c h at-below lc j le)))
+    pass-on c lc j le = (
+      and-from _ _ j (and-from _ _ (open-up (x .at) c at-below lc j) (not-back h (x .at) c (x .trail) w g re le)),
+      and-from _ _ (eq-eqb _ _ ef) (subst (λ u. reach n u h c (x .at ∷ x .trail) ≡ true) (sym e) (is-leads n t (hw .good) (x .at) c h at-below lc j le)),
+    )
 
     handed-here : (k : Where) → (k ≡ Unknown) ⊎ (k ≡ Here) → x .at ≡ h → 1 ≤ count (anywhere f d) (handed lax r v x k (r .stations))
     handed-here k q ah = subst (λ m. 1 ≤ m) (sym (handed-count (anywhere f d) lax r v x k (r .stations))) (below-has (r .stations) _ d ld (and-from _ _ (hands-over lax r v x k d q (eh ∙ sym ah) et nf ec) (and-from _ _ (eq-eqb _ _ ef) (eq-eqb d d refl))))
@@ -83,13 +85,15 @@ module _ (n : ℕ) (t : Tree) (hw : Whole n t) where
     pub still-one : (k : Where) → Right n t h (x .at) k → 1 ≤ count (ahead n f (v .trees) h) (toward t (v .up) x k n) + count (anywhere f d) (handed lax r v x k (r .stations))
     unfolding count
     still-one Unknown rk = elim (ℕ-discrete (x .at) h) [
-        yes q ↦ second _ _ (handed-here Unknown (inl refl) q)
+      | yes q ↦ second _ _ (handed-here Unknown (inl refl) q)
       | no ne ↦ (let c = leads-on n t (hw .good) (x .at) h at-below (hw .inside (x .at) .0 at-below) ne (top-over (x .at) h at-below lh) in
           let p = pass-on (c .0) (c .1) (c .2) (c .3) in
-          first-of _ _ (subst (λ m. 1 ≤ m) (sym (floods-count (ahead n f (v .trees) h) n t (v .up) x)) (below-has n _ (c .0) (c .1) (and-from _ _ (p .0) (p .1))))) ]
+          first-of _ _ (subst (λ m. 1 ≤ m) (sym (floods-count (ahead n f (v .trees) h) n t (v .up) x)) (below-has n _ (c .0) (c .1) (and-from _ _ (p .0) (p .1)))))
+    ]
       where
         second : (a b : ℕ) → 1 ≤ b → 1 ≤ a + b
         second a b h = omega arith
+
         first-of : (a b : ℕ) → 1 ≤ a → 1 ≤ a + b
         first-of a b h = omega arith
     still-one Here rk = second _ _ (handed-here Here (inr refl) (sym rk))
@@ -101,10 +105,11 @@ module _ (n : ℕ) (t : Tree) (hw : Whole n t) where
         let lc = neighbour-below (x .at) c at-below (o .0) in
         let p = pass-on c lc (o .0) (leads-is n t (hw .good) (x .at) c h at-below lc (o .0) (o .1)) in
         first-of _ _ (cond-both (joined t (x .at) c && (v .up (x .at) c && notBack (x .trail) c)) (copyTo x c ∷ []) [] (λ ys. 1 ≤ count (ahead n f (v .trees) h) ys)
-          (λ _. one-there (ahead n f (v .trees) h (copyTo x c)) (p .1)) (λ z. absurd (both-ways _ z (p .0))))
+        (λ _. one-there (ahead n f (v .trees) h (copyTo x c)) (p .1)) (λ z. absurd (both-ways _ z (p .0))))
       where
         first-of : (a b : ℕ) → 1 ≤ a → 1 ≤ a + b
         first-of a b h = omega arith
+
         one-there : (a : Bool) → a ≡ true → 1 ≤ one a + 0
         one-there a q = let y = one-same a true q in omega arith
 
@@ -152,44 +157,57 @@ module _ (lax : Bool) (r : Rules) (t : Tree) (f s d h : ℕ) (hw : Whole (r .bri
   knows-right : (w : World) (x : Copy) → UnderWay w → Walks r (w .trees) x → x .frame ≡ frame-of r f s d (t .number) → Right (r .bridges) t h (x .at) (goesBy lax x (knows w x))
   knows-right w x u o e = subst (Right (r .bridges) t h (x .at)) (sym (goes-is lax x (knows w x) (λ q. sd (sym (ap (λ y. y .from) e) ∙ q ∙ ap (λ y. y .to) e))))
       (subst (λ m. Right (r .bridges) t h (x .at) (w .learned (x .at) m (x .frame .to))) (sym (frame-tree r f s d (t .number) e))
-        (subst (λ m. Right (r .bridges) t h (x .at) (w .learned (x .at) (t .number) m)) (sym (ap (λ y. y .to) e))
-          (subst (λ b. Right (r .bridges) t b (x .at) (w .learned (x .at) (t .number) d)) (u .home-is) (u .learnt .right (x .at) (below-1 (r .bridges) (x .at) (x .trail) (o .inside some-bridge))))))
+      (subst (λ m. Right (r .bridges) t h (x .at) (w .learned (x .at) (t .number) m)) (sym (ap (λ y. y .to) e))
+      (subst (λ b. Right (r .bridges) t b (x .at) (w .learned (x .at) (t .number) d)) (u .home-is) (u .learnt .right (x .at) (below-1 (r .bridges) (x .at) (x .trail) (o .inside some-bridge))))))
 
   least-forward : (i : ℕ) (w : World) (x : Copy) (v : Tree) → Keeps lax r w → UnderWay w → Pick x i (w .copies) → treeOf (x .frame .tree) (w .trees) ≡ This v → 1 ≤ total (forward lax r x v (with-copies (without i (w .copies)) w))
   least-forward i w x v k u pk e = go (ahead (r .bridges) f (w .trees) h x) refl
     where
       w′ : World
       w′ = with-copies (without i (w .copies)) w
+
       known : Where
       known = goesBy lax x (knows w′ x)
+
       p : Copy → Bool
       p = ahead (r .bridges) f (w .trees) h
+
       o : Walks r (w .trees) x
       o = k .walks x (pick-mem pk)
+
       c1 : count p (w .copies) ≡ one (p x) + count p (without i (w .copies))
       c1 = count-pick p x i (w .copies) pk
+
       c2 : count p (toward v (w .up) x known (r .bridges) ++ without i (w .copies)) ≡ count p (toward v (w .up) x known (r .bridges)) + count p (without i (w .copies))
       c2 = count-append p (toward v (w .up) x known (r .bridges)) (without i (w .copies))
+
       c3 : count (anywhere f d) (handed lax r w′ x known (r .stations) ++ w .got) ≡ count (anywhere f d) (handed lax r w′ x known (r .stations)) + count (anywhere f d) (w .got)
       c3 = count-append (anywhere f d) (handed lax r w′ x known (r .stations)) (w .got)
+
       idle : (a b c g y z g′ q : ℕ) → 1 ≤ a + g → a ≡ q + b → q ≡ 0 → z ≡ c + b → g′ ≡ y + g → 1 ≤ z + g′
       idle a b c g y z g′ q h1 h2 h3 h4 h5 = omega arith
+
       moving : (b c g y z g′ : ℕ) → 1 ≤ c + y → z ≡ c + b → g′ ≡ y + g → 1 ≤ z + g′
       moving b c g y z g′ h1 h2 h3 = omega arith
+
       go : (b : Bool) → p x ≡ b → 1 ≤ total (forward lax r x v w′)
       go false q = idle _ _ _ _ _ _ _ _ (u .least) c1 (one-same (p x) false q) c2 c3
       go true q = moving _ _ _ _ _ _ (subst (λ v′. 1 ≤ count p (toward v′ (w .up) x known (r .bridges)) + count (anywhere f d) (handed lax r w′ x known (r .stations))) same-tree
           (still-one (r .bridges) t hw lax r f d h lh ld w′ (u .links) x is-tree (subst (λ v′. Walk v′ (x .at ∷ x .trail)) walk-tree (o .walk)) (o .inside some-bridge) nf (u .home-is)
-            (sym (ap (λ y. y .to) fe)) (λ z. sd (sym (z ∙ ap (λ y. y .from) fe))) (sym same-vlan ∙ sym (ap (λ y. y .colour) fe)) (subst (λ z. reach (r .bridges) z h (x .at) (x .trail) ≡ true) is-tree (and-parts _ _ q .1)) known (knows-right w x u o fe))) c2 c3
+          (sym (ap (λ y. y .to) fe)) (λ z. sd (sym (z ∙ ap (λ y. y .from) fe))) (sym same-vlan ∙ sym (ap (λ y. y .colour) fe)) (subst (λ z. reach (r .bridges) z h (x .at) (x .trail) ≡ true) is-tree (and-parts _ _ q .1)) known (knows-right w x u o fe))) c2 c3
         where
           nf : x .frame .number ≡ f
           nf = eqb-true _ _ (and-parts _ _ q .0)
+
           fe : x .frame ≡ frame-of r f s d (t .number)
           fe = u .frames x (pick-mem pk) nf
+
           is-tree : treeOf (x .frame .tree) (w .trees) ≡ This t
           is-tree = subst (λ m. treeOf m (w .trees) ≡ This t) (sym (frame-tree r f s d (t .number) fe)) (u .learnt .is)
+
           same-tree : t ≡ v
           same-tree = let a = is-tree in let b = e in cc
+
           walk-tree : o .t ≡ t
           walk-tree = let a = is-tree in let b = o .is in cc
 
@@ -228,15 +246,17 @@ module _ (lax : Bool) (r : Rules) (t : Tree) (f s d h : ℕ) (hw : Whole (r .bri
     frames = carried-step Of (λ _. Unit {0}) lax r (λ _ _ _ _ _ _. tt) e w (λ a b n ns _ _ _ _ _ z. absurd (newer z)) (record { frames = u .frames; given = λ _ _. tt }) .frames;
     sent = grown (next-grows lax r e w);
     at-home = given-step lax r (λ g. g .frame ≡ f → g .station ≡ d → g .bridge ≡ h) e w
-      (λ x v a _ hv m _ z. sym (may-home lax r v x (goesBy lax x (knows w x)) a m) ∙ ap (v .home) z ∙ ap (λ y. y d) hv ∙ u .home-is) (u .at-home);
+        (λ x v a _ hv m _ z. sym (may-home lax r v x (goesBy lax x (knows w x)) a m) ∙ ap (v .home) z ∙ ap (λ y. y d) hv ∙ u .home-is) (u .at-home);
     least = least-step e w k u q;
     most = tally-step lax r f d h (anywhere f d) (tallied f d) e w k (λ g p z. sym z ∙ ap (w .home) (tallied f d .of-station g p) ∙ u .home-is) (u .most);
   }
     where
       Of : Frame → Type 0
       Of y = y .number ≡ f → y ≡ frame-of r f s d (t .number)
+
       newer : w .next ≡ f → ⊥
       newer z = let a = u .sent in omega arith
+
       grown : w .next ≤ happen lax r e w .next → f < happen lax r e w .next
       grown z = let a = u .sent in grown-by _ _ _ a z
         where
@@ -256,7 +276,7 @@ module _ (lax : Bool) (r : Rules) (t : Tree) (f s d h : ℕ) (hw : Whole (r .bri
           known : goesBy lax x (knows w x) ≡ Unknown → ⊥
           known z = al (x .at) (below-1 (r .bridges) (x .at) (x .trail) (k .walks x m .inside some-bridge))
               (subst (λ n. w .learned (x .at) n d ≡ Unknown) (frame-tree r f s d (t .number) e) (subst (λ n. w .learned (x .at) (x .frame .tree) n ≡ Unknown) (ap (λ y. y .to) e)
-                (sym (goes-is lax x (knows w x) (λ q. sd (sym (ap (λ y. y .from) e) ∙ q ∙ ap (λ y. y .to) e))) ∙ z)))
+              (sym (goes-is lax x (knows w x) (λ q. sd (sym (ap (λ y. y .from) e) ∙ q ∙ ap (λ y. y .to) e))) ∙ z)))
 
   module _ (es : List Event) (begins : UnderWay (run lax r es)) where
     under-way : (fs : List Event) → quietly lax r t f d es fs ≡ true → UnderWay (run lax r (fs ++ es))
@@ -311,24 +331,29 @@ module _ (lax : Bool) (r : Rules) (es : List Event) (t : Tree) (l : looks (r .br
     newest = rest .newest;
     links = rest .links;
     home-is = refl;
-    learnt = record { is = rest .there;
+    learnt = record {
+      is = rest .there;
       begun = λ x m. elim (List·Memᴰ·cases-cons m) [ inl q ↦ (λ e _. absurd (sd (sym (ap (λ y. y .frame .from) q) ∙ e))) | inr m′ ↦ begun x m′ ];
-      right = λ b lb. not-wrong-right r w0 t b d (w0 .learned b (t .number) d) (nothing-wrong b lb) };
+      right = λ b lb. not-wrong-right r w0 t b d (w0 .learned b (t .number) d) (nothing-wrong b lb);
+    };
     frames = λ x m e. elim (List·Memᴰ·cases-cons m) [ inl q ↦ ap (λ y. y .frame) q | inr m′ ↦ absurd (older (keeps lax r es .fresh x m′) e) ];
     sent = one-more (w0 .next);
     at-home = λ g m e. absurd (older (keeps lax r es .old g m) e);
     least = counted _ _ _ (and-from _ _ (eq-eqb (w0 .next) (w0 .next) refl) (subst (λ u. reach (r .bridges) u (w0 .home d) (w0 .home s) [] ≡ true) (sym (rest .there)) refl));
     most = subst (λ v. tally lax r (w0 .next) d (w0 .home d) (anywhere (w0 .next) d) (tallied (w0 .next) d) v ≤ 1) sent-is
-      (tally-step lax r (w0 .next) d (w0 .home d) (anywhere (w0 .next) d) (tallied (w0 .next) d) (Send s d) w0 (keeps lax r es) (λ g p z. sym z ∙ ap (w0 .home) (tallied (w0 .next) d .of-station g p))
+        (tally-step lax r (w0 .next) d (w0 .home d) (anywhere (w0 .next) d) (tallied (w0 .next) d) (Send s d) w0 (keeps lax r es) (λ g p z. sym z ∙ ap (w0 .home) (tallied (w0 .next) d .of-station g p))
         (none (tally-none lax r (w0 .next) d (w0 .home d) (anywhere (w0 .next) d) (tallied (w0 .next) d) w0 (keeps lax r es) (itself (w0 .next)))));
   })
     where
       one-more : (n : ℕ) → n < suc n
       one-more n = omega arith
+
       itself : (n : ℕ) → n ≤ n
       itself n = omega arith
+
       none : {n : ℕ} → n ≡ 0 → n ≤ 1
       none e = omega arith
+
       counted : (a : Bool) (b c : ℕ) → a ≡ true → 1 ≤ (one a + b) + c
       counted a b c e = let y = one-same a true e in omega arith
 
@@ -336,27 +361,34 @@ module _ (lax : Bool) (r : Rules) (es : List Event) (t : Tree) (l : looks (r .br
       (countGot (w0 .next) d (w0 .home d) (run lax r (fs ++ (Send s d ∷ es)) .got) ≡ 1) ×
       (countAll (w0 .next) d (run lax r (fs ++ (Send s d ∷ es)) .got) ≡ 1) ×
       (((b : ℕ) → b < r .bridges → w0 .learned b (t .number) d ≡ Unknown → ⊥) → remembered (t .number) d fs ≡ true →
-        (q : ℕ) → (q ≡ d → ⊥) → countAll (w0 .next) q (run lax r (fs ++ (Send s d ∷ es)) .got) ≡ 0)
+      (q : ℕ) → (q ≡ d → ⊥) → countAll (w0 .next) q (run lax r (fs ++ (Send s d ∷ es)) .got) ≡ 0)
   unfolding run
   arrives-once fs q none = (count-got f d h (end .got) ∙ here-all ∙ once, count-all f d (end .got) ∙ once, nobody)
     where
       f : ℕ
       f = w0 .next
+
       h : ℕ
       h = w0 .home d
+
       end : World
       end = run lax r (fs ++ (Send s d ∷ es))
+
       u : UnderWay lax r t f s d h whole hd ld sd same-vlan end
       u = under-way lax r t f s d h whole hd ld sd same-vlan (Send s d ∷ es) sent-under-way fs q
+
       none-left : count (ahead (r .bridges) f (end .trees) h) (end .copies) ≡ 0
       none-left = count-none _ (end .copies) (λ x m. ap (λ b. b && reach (r .bridges) (treeOf (x .frame .tree) (end .trees)) h (x .at) (x .trail)) (none-of f (end .copies) none x m))
+
       once : count (anywhere f d) (end .got) ≡ 1
       once = exactly _ _ (u .least) (u .most) none-left
         where
           exactly : (a b : ℕ) → 1 ≤ a + b → a + b ≤ 1 → a ≡ 0 → b ≡ 1
           exactly a b p q z = omega arith
+
       here-all : count (at-bridge f d h) (end .got) ≡ count (anywhere f d) (end .got)
       here-all = count-same _ _ (end .got) (λ g m. same-count f d h (g .frame) (g .station) (g .bridge) (u .at-home g m))
+
       nobody : ((b : ℕ) → b < r .bridges → w0 .learned b (t .number) d ≡ Unknown → ⊥) → remembered (t .number) d fs ≡ true → (q : ℕ) → (q ≡ d → ⊥) → countAll f q (end .got) ≡ 0
       nobody al rem p ne = count-all f p (end .got) ∙ count-none _ (end .got) (λ g m. not-for f d p (g .frame) (g .station) ne (all-d .1 g m))
         where

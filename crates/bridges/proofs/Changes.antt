@@ -121,13 +121,14 @@ module _ (lax : Bool) (r : Rules) (P : World → Type 0) where
   -- a tree is adopted: if it was announced and looks like one
   pub adopt-by : (b n : ℕ) (w : World) → P w →
       ((t : Tree) → treeOf n (w .trees) ≡ This t → looks (r .bridges) t ≡ true →
-        P (record { home = w .home; up = w .up; trees = w .trees; holds = at b (two (n ∷ w .holds b)) (w .holds); learned = w .learned; copies = w .copies; got = w .got; next = w .next })) →
+      P (record { home = w .home; up = w .up; trees = w .trees; holds = at b (two (n ∷ w .holds b)) (w .holds); learned = w .learned; copies = w .copies; got = w .got; next = w .next })) →
       P (adoptIf lax r b n (treeOf n (w .trees)) w)
   adopt-by b n w old new = go (treeOf n (w .trees)) refl
     where
       by : (t : Tree) → treeOf n (w .trees) ≡ This t → (x : Bool) → looks (r .bridges) t ≡ x → P (adoptIf lax r b n (This t) w)
       by t e true l = cond-both _ w _ P (λ _. old) (λ _. new t e l)
       by t e false l = subst P (sym (adopt-refuses lax r b n t w l)) old
+
       go : (f : Found) → treeOf n (w .trees) ≡ f → P (adoptIf lax r b n f w)
       go NoTree e = old
       go (This t) e = by t e (looks (r .bridges) t) refl
@@ -141,6 +142,7 @@ module _ (lax : Bool) (r : Rules) (P : World → Type 0) where
     where
       parts : (p : Bool) (x : ℕ) → (p && (ltb s x && ltb d x)) ≡ true → (p ≡ true) × (s < x) × (d < x)
       parts p x h = grind (arith, tells)
+
       go : ((lax || ltb (w .home s) (r .bridges)) ≡ true) × (s < r .stations) × (d < r .stations) → (hs : List ℕ) → w .holds (w .home s) ≡ hs → P (sendBy r s d hs w)
       go h [] e = old
       go h (n ∷ ns) e = new n ns e (h .0) (h .1) (h .2)

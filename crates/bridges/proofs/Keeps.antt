@@ -69,15 +69,17 @@ floods-mem : (n : ℕ) (t : Tree) (up : ℕ → ℕ → Bool) (x y : Copy) → L
 unfolding floods
 floods-mem zero t up x y m = absurd (List·Memᴰ·not-nil m)
 floods-mem (suc c) t up x y m = elim (floods-tells c t up x) [
-    inl e ↦ wider (floods-mem c t up x y (subst (List·Memᴰ y) e m))
-  | inr h ↦ elim (List·Memᴰ·cases-cons (subst (List·Memᴰ y) (h .0) m)) [ inl e ↦ onward t up x Unknown (suc c) c y e (inl (one-more c)) (h .1) (h .2) (h .3) | inr m′ ↦ wider (floods-mem c t up x y m′) ] ]
+  | inl e ↦ wider (floods-mem c t up x y (subst (List·Memᴰ y) e m))
+  | inr h ↦ elim (List·Memᴰ·cases-cons (subst (List·Memᴰ y) (h .0) m)) [ inl e ↦ onward t up x Unknown (suc c) c y e (inl (one-more c)) (h .1) (h .2) (h .3) | inr m′ ↦ wider (floods-mem c t up x y m′) ]
+]
 
 pub toward-mem : (t : Tree) (up : ℕ → ℕ → Bool) (x : Copy) (k : Where) (n : ℕ) (y : Copy) → List·Memᴰ y (toward t up x k n) → Onward t up x k n y
 toward-mem t up x Unknown n y m = floods-mem n t up x y m
 toward-mem t up x Here n y m = absurd (List·Memᴰ·not-nil m)
 toward-mem t up x (Behind c) n y m = elim (toward-tells t up x c n) [
-    inl e ↦ absurd (List·Memᴰ·not-nil (subst (List·Memᴰ y) e m))
-  | inr h ↦ elim (List·Memᴰ·cases-cons (subst (List·Memᴰ y) (h .0) m)) [ inl e ↦ onward t up x (Behind c) n c y e (inr refl) (h .1) (h .2) (h .3) | inr m′ ↦ absurd (List·Memᴰ·not-nil m′) ] ]
+  | inl e ↦ absurd (List·Memᴰ·not-nil (subst (List·Memᴰ y) e m))
+  | inr h ↦ elim (List·Memᴰ·cases-cons (subst (List·Memᴰ y) (h .0) m)) [ inl e ↦ onward t up x (Behind c) n c y e (inr refl) (h .1) (h .2) (h .3) | inr m′ ↦ absurd (List·Memᴰ·not-nil m′) ]
+]
 
 -- what is handed to stations
 pub handed-mem : (lax : Bool) (r : Rules) (w : World) (x : Copy) (k : Where) (n : ℕ) (g : Got) → List·Memᴰ g (handed lax r w x k n) →
@@ -114,14 +116,17 @@ walks-on r trees up x t k e o h y w = subst (λ z. Walks r trees z) (sym (w .is)
   where
     c : ℕ
     c = w .to
+
     place : (c < r .bridges) ⊎ (k ≡ Behind c) → c < r .bridges
     place (inl lt) = lt
     place (inr e) = elim (h c e) [ inl lt ↦ lt | inr q ↦ absurd (off t (x .at) c (w .by) q) ]
       where
         off : (t : Tree) (b c : ℕ) → joined t b c ≡ true → c ≡ b → ⊥
         off t b c j q = grind (arith, tells)
+
     same : o .t ≡ t
     same = let a = o .is in cc
+
     go : c < r .bridges → Walks r trees (copyTo x c)
     go lt = record {
       t = t;
@@ -138,7 +143,6 @@ tree-stays t u n ts e h = elim (ℕ-discrete (t .number) n) [ yes q ↦ absurd (
 
 pub walks-stay : (r : Rules) (t : Tree) (ts : List Tree) → treeOf (t .number) ts ≡ NoTree → (x : Copy) → Walks r ts x → Walks r (t ∷ ts) x
 walks-stay r t ts e x o = record { t = o .t; is = tree-stays t (o .t) (x .frame .tree) ts e (o .is); good = o .good; walk = o .walk; inside = o .inside; still = o .still }
-
 
 is-known : (r : Rules) (t : Tree) (ts : List Tree) → treeOf (t .number) ts ≡ NoTree → (n : ℕ) → Known r ts n → Known r (t ∷ ts) n
 is-known r t ts e n k = record { t = k .t; is = tree-stays t (k .t) n ts e (k .is); good = k .good }
@@ -159,8 +163,15 @@ no-tree-before t n ts h = cond-both (eqb (t .number) n) (This t) (treeOf n ts) (
 module _ (lax : Bool) (r : Rules) where
   -- fewer copies
   keeps-less : (i : ℕ) (w : World) → Keeps lax r w → Keeps lax r (with-copies (without i (w .copies)) w)
-  keeps-less i w k = record { homes = k .homes; held = k .held; behind = k .behind; blank = k .blank;
-    walks = λ x m. k .walks x (without-mem i (w .copies) m); fresh = λ x m. k .fresh x (without-mem i (w .copies) m); old = k .old }
+  keeps-less i w k = record {
+    homes = k .homes;
+    held = k .held;
+    behind = k .behind;
+    blank = k .blank;
+    walks = λ x m. k .walks x (without-mem i (w .copies) m);
+    fresh = λ x m. k .fresh x (without-mem i (w .copies) m);
+    old = k .old;
+  }
 
   keeps-forward : (x : Copy) (t : Tree) (w : World) → Keeps lax r w → Walks r (w .trees) x → x .frame .number < w .next → treeOf (x .frame .tree) (w .trees) ≡ This t → Keeps lax r (forward lax r x t w)
   keeps-forward x t w k o lt e = record {
@@ -175,21 +186,29 @@ module _ (lax : Bool) (r : Rules) where
     where
       known : Where
       known = goesBy lax x (knows w x)
+
       by : (c : ℕ) → known ≡ Behind c → (c < r .bridges) ⊎ (c ≡ x .at)
       by c q = goes-behind lax r (w .trees) x (knows w x) o (λ d. k .behind (x .at) (x .frame .tree) (x .frame .to) d) c q
+
       heard : (b n s : ℕ) → ((b ≡ x .at) × (n ≡ x .frame .tree) × (s ≡ x .frame .from) × (learns x (w .learned) b n s ≡ cameBy (x .trail))) ⊎ (learns x (w .learned) b n s ≡ w .learned b n s)
       heard b n s = at3-tells (x .at) (x .frame .tree) (x .frame .from) (cameBy (x .trail)) (w .learned) b n s
+
       no-such : {n : ℕ} → n ≡ x .frame .tree → treeOf n (w .trees) ≡ NoTree → ⊥
       no-such q z = let y = subst (λ m. treeOf m (w .trees) ≡ NoTree) q z in grind arith
+
       new-fresh : (y : Copy) → Onward t (w .up) x known (r .bridges) y → y .frame .number < w .next
       new-fresh y o′ = subst (λ z. z .frame .number < w .next) (sym (o′ .is)) lt
+
       new-old : (g : Got) → (s : ℕ) × (g ≡ record { frame = x .frame .number; station = s; bridge = x .at }) × (mayHand lax r w x known s ≡ true) → g .frame < w .next
       new-old g h = subst (λ z. z .frame < w .next) (sym (h .1)) lt
 
   keeps-send : (s d n : ℕ) (ns : List ℕ) (w : World) → Keeps lax r w → w .holds (w .home s) ≡ n ∷ ns → (lax || ltb (w .home s) (r .bridges)) ≡ true → Keeps lax r (sendBy r s d (n ∷ ns) w)
   unfolding sendBy
   keeps-send s d n ns w k e on-net = record {
-    homes = k .homes; held = k .held; behind = k .behind; blank = k .blank;
+    homes = k .homes;
+    held = k .held;
+    behind = k .behind;
+    blank = k .blank;
     walks = λ y m. elim (List·Memᴰ·cases-cons m) [ inl q ↦ subst (λ z. Walks r (w .trees) z) (sym q) (new (k .held (w .home s) n (subst (λ hs. isIn n hs ≡ true) (sym e) (first-in n ns)))) | inr m′ ↦ k .walks y m′ ];
     fresh = λ y m. elim (List·Memᴰ·cases-cons m) [ inl q ↦ subst (λ z. z .frame .number < sendBy r s d (n ∷ ns) w .next) (sym q) newest | inr m′ ↦ up-one (y .frame .number) (k .fresh y m′) ];
     old = λ g m. up-one (g .frame) (k .old g m);
@@ -197,15 +216,19 @@ module _ (lax : Bool) (r : Rules) where
     where
       newest : w .next < sendBy r s d (n ∷ ns) w .next
       newest = omega arith
+
       up-one : (a : ℕ) → a < w .next → a < sendBy r s d (n ∷ ns) w .next
       up-one a h = omega arith
+
       new : Known r (w .trees) n → Walks r (w .trees) (record { frame = record { number = w .next; from = s; to = d; colour = r .colour s; tree = n }; at = w .home s; trail = [] })
       new h = record { t = h .t; is = h .is; good = h .good; walk = here (w .home s); inside = λ p. all-below (r .bridges) (w .home s) [] (inside p) nothing; still = λ _. refl }
         where
           nothing : allBelow (r .bridges) [] ≡ true
           nothing = unfold allBelow in refl
+
           either : (x : Bool) (a b : ℕ) → (x || ltb a b) ≡ true → (x ≡ true) ⊎ (a < b)
           either x a b h = grind (arith, tells)
+
           inside : 0 < r .bridges → w .home s < r .bridges
           inside p = elim (either lax (w .home s) (r .bridges) on-net) [ inl l ↦ k .homes l s p | inr lt ↦ lt ]
 
@@ -216,25 +239,45 @@ module _ (lax : Bool) (r : Rules) where
   keeps-step (Lose i) w k = keeps-less i w k
   keeps-step (Believe a b c) w k = k
   keeps-step (Announce t) w k = announce-by lax r (Keeps lax r) t w k (λ e. record {
-    homes = k .homes; held = λ b n h. is-known r t (w .trees) e n (k .held b n h); behind = k .behind;
+    homes = k .homes;
+    held = λ b n h. is-known r t (w .trees) e n (k .held b n h);
+    behind = k .behind;
     blank = λ b n s h. k .blank b n s (no-tree-before t n (w .trees) h);
-    walks = λ x m. walks-stay r t (w .trees) e x (k .walks x m); fresh = k .fresh; old = k .old })
+    walks = λ x m. walks-stay r t (w .trees) e x (k .walks x m);
+    fresh = k .fresh;
+    old = k .old;
+  })
   keeps-step (Adopt b n) w k = adopt-by lax r (Keeps lax r) b n w k (λ t e l. record {
     homes = k .homes;
     held = λ p m. cond-both (eqb p b) (two (n ∷ w .holds b)) (w .holds p) (λ hs. isIn m hs ≡ true → Known r (w .trees) m)
-      (λ _ h. elim (in-two m n (w .holds b) h) [ inl q ↦ subst (λ z. Known r (w .trees) z) q (record { t = t; is = e; good = l }) | inr h′ ↦ k .held b m h′ ]) (λ _ h. k .held p m h);
-    behind = k .behind; blank = k .blank; walks = k .walks; fresh = k .fresh; old = k .old })
+        (λ _ h. elim (in-two m n (w .holds b) h) [ inl q ↦ subst (λ z. Known r (w .trees) z) q (record { t = t; is = e; good = l }) | inr h′ ↦ k .held b m h′ ]) (λ _ h. k .held p m h);
+    behind = k .behind;
+    blank = k .blank;
+    walks = k .walks;
+    fresh = k .fresh;
+    old = k .old;
+  })
   keeps-step (Move s b) w k = cond-both (not lax || ltb b (r .bridges)) _ w (Keeps lax r) (λ h. record {
     homes = λ l q p. cond-both (eqb q s) b (w .home q) (λ c. c < r .bridges) (λ _. there lax b (r .bridges) h l) (λ _. k .homes l q p);
-    held = k .held; behind = k .behind; blank = k .blank; walks = k .walks; fresh = k .fresh; old = k .old }) (λ _. k)
+    held = k .held;
+    behind = k .behind;
+    blank = k .blank;
+    walks = k .walks;
+    fresh = k .fresh;
+    old = k .old;
+  }) (λ _. k)
     where
       there : (x : Bool) (a b : ℕ) → (not x || ltb a b) ≡ true → x ≡ true → a < b
       there x a b h l = grind (arith, tells)
   keeps-step (Forget b n s) w k = record {
-    homes = k .homes; held = k .held;
+    homes = k .homes;
+    held = k .held;
     behind = λ p m q c e. elim (forget-tells lax r b n s w p m q) [ inl h ↦ absurd (unknown (sym h ∙ e)) | inr h ↦ k .behind p m q c (sym h ∙ e) ];
     blank = λ p m q z. elim (forget-tells lax r b n s w p m q) [ inl h ↦ h | inr h ↦ h ∙ k .blank p m q z ];
-    walks = k .walks; fresh = k .fresh; old = k .old }
+    walks = k .walks;
+    fresh = k .fresh;
+    old = k .old;
+  }
     where
       unknown : {c : ℕ} → Unknown ≡ Behind c → ⊥
       unknown e = grind arith
@@ -243,21 +286,30 @@ module _ (lax : Bool) (r : Rules) where
     held = λ p m. cond-both (eqb p b) [] (w .holds p) (λ hs. isIn m hs ≡ true → Known r (w .trees) m) (λ _ h. absurd (nothing m h)) (λ _ h. k .held p m h);
     behind = λ p m q c e. elim (crash-tells lax r b w p m q) [ inl h ↦ absurd (unknown (sym h ∙ e)) | inr h ↦ k .behind p m q c (sym h ∙ e) ];
     blank = λ p m q z. elim (crash-tells lax r b w p m q) [ inl h ↦ h | inr h ↦ h ∙ k .blank p m q z ];
-    walks = k .walks; fresh = k .fresh; old = k .old }
+    walks = k .walks;
+    fresh = k .fresh;
+    old = k .old;
+  }
     where
       unknown : {c : ℕ} → Unknown ≡ Behind c → ⊥
       unknown e = grind arith
+
       nothing : (m : ℕ) → isIn m [] ≡ true → ⊥
       nothing m e = unfold isIn in grind arith
   keeps-step (Turn b n s ok) w k = record {
-    homes = k .homes; held = k .held;
+    homes = k .homes;
+    held = k .held;
     behind = λ p m q c. cond-both (eqb p b && (eqb m n && eqb q s)) (turned b ok (w .learned p m q)) (w .learned p m q) (λ v. v ≡ Behind c → (c < r .bridges) ⊎ (c ≡ p))
-      (λ h e. turned-behind p b c ok (r .bridges) (w .learned p m q) (bridge-is p b _ h) (k .behind p m q c) e) (λ _ e. k .behind p m q c e);
+        (λ h e. turned-behind p b c ok (r .bridges) (w .learned p m q) (bridge-is p b _ h) (k .behind p m q c) e) (λ _ e. k .behind p m q c e);
     blank = λ p m q z. cond-both (eqb p b && (eqb m n && eqb q s)) (turned b ok (w .learned p m q)) (w .learned p m q) (λ v. v ≡ Unknown) (λ _. ap (turned b ok) (k .blank p m q z)) (λ _. k .blank p m q z);
-    walks = k .walks; fresh = k .fresh; old = k .old }
+    walks = k .walks;
+    fresh = k .fresh;
+    old = k .old;
+  }
     where
       bridge-is : (p b : ℕ) (x : Bool) → (eqb p b && x) ≡ true → p ≡ b
       bridge-is p b x h = grind (arith, tells)
+
       turned-behind : (p b c : ℕ) (ok : Bool) (n : ℕ) (v : Where) → p ≡ b → (v ≡ Behind c → (c < n) ⊎ (c ≡ p)) → turned b ok v ≡ Behind c → (c < n) ⊎ (c ≡ p)
       turned-behind p b c ok n Unknown q h e = absurd (grind arith)
       turned-behind p b c ok n Here q h e = grind arith
@@ -266,11 +318,18 @@ module _ (lax : Bool) (r : Rules) where
   pub keeps : (es : List Event) → Keeps lax r (run lax r es)
   unfolding run
   keeps [] = record {
-    homes = λ l s p. subst (λ x. cond x 0 (r .bridges) < r .bridges) (sym l) p; held = λ b n h. absurd (nothing n h); behind = λ b n s c e. absurd (unknown e); blank = λ b n s z. refl;
-    walks = λ x m. absurd (List·Memᴰ·not-nil m); fresh = λ x m. absurd (List·Memᴰ·not-nil m); old = λ g m. absurd (List·Memᴰ·not-nil m) }
+    homes = λ l s p. subst (λ x. cond x 0 (r .bridges) < r .bridges) (sym l) p;
+    held = λ b n h. absurd (nothing n h);
+    behind = λ b n s c e. absurd (unknown e);
+    blank = λ b n s z. refl;
+    walks = λ x m. absurd (List·Memᴰ·not-nil m);
+    fresh = λ x m. absurd (List·Memᴰ·not-nil m);
+    old = λ g m. absurd (List·Memᴰ·not-nil m);
+  }
     where
       unknown : {c : ℕ} → Unknown ≡ Behind c → ⊥
       unknown e = grind arith
+
       nothing : (m : ℕ) → isIn m [] ≡ true → ⊥
       nothing m e = unfold isIn in grind arith
   keeps (e ∷ es) = keeps-step e (run lax r es) (keeps es)

@@ -55,6 +55,7 @@ way-back n t b c bs l out g w = on-way-is n t l out b (origin c bs) c ∙ and-fr
   where
     turned-round : (t : Tree) (b c : ℕ) → joined t b c ≡ true → joined t c b ≡ true
     turned-round t b c j = grind (arith, tells)
+
     go : Way n t b c bs → Leads n t b c (origin c bs)
     go (rose e f a) = down e f (origin-all c bs a)
     go (fell e f a) = up e f (origin-none c bs a)
@@ -82,28 +83,34 @@ module _ (lax : Bool) (r : Rules) (t : Tree) (s : ℕ) (out : (b : ℕ) → r .b
     is = k .is;
     begun = λ y m. elim (List·Memᴰ·append-cases (toward u (w .up) x known (r .bridges)) m) [ inl m′ ↦ made y (toward-mem u (w .up) x known (r .bridges) y m′) | inr m′ ↦ k .begun y m′ ];
     right = λ b lt. elim (at3-tells (x .at) (x .frame .tree) (x .frame .from) (cameBy (x .trail)) (w .learned) b (t .number) s) [
-        inl h ↦ subst (Right (r .bridges) t (w .home s) b) (sym (h .3)) (heard b lt (h .0, h .1, h .2))
-      | inr h ↦ subst (Right (r .bridges) t (w .home s) b) (sym h) (k .right b lt) ];
+      | inl h ↦ subst (Right (r .bridges) t (w .home s) b) (sym (h .3)) (heard b lt (h .0, h .1, h .2))
+      | inr h ↦ subst (Right (r .bridges) t (w .home s) b) (sym h) (k .right b lt)
+    ];
   }
     where
       known : Where
       known = goesBy lax x (knows w x)
+
       made : (y : Copy) → Onward u (w .up) x known (r .bridges) y → y .frame .from ≡ s → y .frame .tree ≡ t .number → origin (y .at) (y .trail) ≡ w .home s
       made y o′ = subst (λ z. z .frame .from ≡ s → z .frame .tree ≡ t .number → origin (z .at) (z .trail) ≡ w .home s) (sym (o′ .is)) (unfold origin in og)
+
       heard : (b : ℕ) → b < r .bridges → (b ≡ x .at) × (t .number ≡ x .frame .tree) × (s ≡ x .frame .from) → Right (r .bridges) t (w .home s) b (cameBy (x .trail))
       heard b lt e = subst (λ c. Right (r .bridges) t (w .home s) c (cameBy (x .trail))) (sym (e .0))
           (came-right (r .bridges) t (w .home s) (x .at) (x .trail) (subst (λ v. looks (r .bridges) v ≡ true) same (o .good)) out (o .inside (some-bridge lt)) (subst (λ v. Walk v (x .at ∷ x .trail)) same (o .walk)) (og (sym (e .2)) (sym (e .1))))
         where
           same : o .t ≡ t
           same = let a = o .is in let b = subst (λ n. treeOf n (w .trees) ≡ This t) (e .1) (k .is) in cc
+
           some-bridge : {a b : ℕ} → a < b → 0 < b
           some-bridge lt = omega arith
 
   pub learnt-step : (e : Event) (w : World) → Keeps lax r w → moves s e ≡ false → Learnt r t s w → Learnt r t s (happen lax r e w)
   unfolding sendBy
   learnt-step (Send a d) w kp mv k = send-by lax r (Learnt r t s) a d w k (λ n ns _ _ _ _. record {
-    is = k .is; right = k .right;
-    begun = λ y m. elim (List·Memᴰ·cases-cons m) [ inl q ↦ subst (λ z. z .frame .from ≡ s → z .frame .tree ≡ t .number → origin (z .at) (z .trail) ≡ w .home s) (sym q) (unfold origin in λ e _. ap (w .home) e) | inr m′ ↦ k .begun y m′ ] })
+    is = k .is;
+    right = k .right;
+    begun = λ y m. elim (List·Memᴰ·cases-cons m) [ inl q ↦ subst (λ z. z .frame .from ≡ s → z .frame .tree ≡ t .number → origin (z .at) (z .trail) ≡ w .home s) (sym q) (unfold origin in λ e _. ap (w .home) e) | inr m′ ↦ k .begun y m′ ];
+  })
   learnt-step (Arrive i) w kp mv k = let less = learnt-less i w k in arrive-by lax r (Learnt r t s) i (w .copies) (with-copies (without i (w .copies)) w) (λ _. less) (λ _ _ _. less)
       (λ x u p _ _. learnt-forward x u (with-copies (without i (w .copies)) w) (kp .walks x (pick-mem p)) (k .begun x (pick-mem p)) less)
   learnt-step (Lose i) w kp mv k = learnt-less i w k
@@ -113,19 +120,30 @@ module _ (lax : Bool) (r : Rules) (t : Tree) (s : ℕ) (out : (b : ℕ) → r .b
   learnt-step (Move a b) w kp mv k = cond-both (not lax || ltb b (r .bridges)) _ w (Learnt r t s) (λ _. record {
     is = k .is;
     begun = λ x m p q. k .begun x m p q ∙ sym home-is;
-    right = λ c lt. subst (λ h. Right (r .bridges) t h c (w .learned c (t .number) s)) (sym home-is) (k .right c lt) }) (λ _. k)
+    right = λ c lt. subst (λ h. Right (r .bridges) t h c (w .learned c (t .number) s)) (sym home-is) (k .right c lt);
+  }) (λ _. k)
     where
       other : (a s : ℕ) → eqb a s ≡ false → eqb s a ≡ false
       other a s h = grind (arith, tells)
+
       home-is : cond (eqb s a) b (w .home s) ≡ w .home s
       home-is = ap (λ x. cond x b (w .home s)) (other a s mv)
-  learnt-step (Forget b n a) w kp mv k = record { is = k .is; begun = k .begun;
-    right = λ c lt. elim (forget-tells lax r b n a w c (t .number) s) [ inl h ↦ subst (Right (r .bridges) t (w .home s) c) (sym h) tt | inr h ↦ subst (Right (r .bridges) t (w .home s) c) (sym h) (k .right c lt) ] }
-  learnt-step (Crash b) w kp mv k = record { is = k .is; begun = k .begun;
-    right = λ c lt. elim (crash-tells lax r b w c (t .number) s) [ inl h ↦ subst (Right (r .bridges) t (w .home s) c) (sym h) tt | inr h ↦ subst (Right (r .bridges) t (w .home s) c) (sym h) (k .right c lt) ] }
-  learnt-step (Turn b n a ok) w kp mv k = record { is = k .is; begun = k .begun;
+  learnt-step (Forget b n a) w kp mv k = record {
+    is = k .is;
+    begun = k .begun;
+    right = λ c lt. elim (forget-tells lax r b n a w c (t .number) s) [ inl h ↦ subst (Right (r .bridges) t (w .home s) c) (sym h) tt | inr h ↦ subst (Right (r .bridges) t (w .home s) c) (sym h) (k .right c lt) ];
+  }
+  learnt-step (Crash b) w kp mv k = record {
+    is = k .is;
+    begun = k .begun;
+    right = λ c lt. elim (crash-tells lax r b w c (t .number) s) [ inl h ↦ subst (Right (r .bridges) t (w .home s) c) (sym h) tt | inr h ↦ subst (Right (r .bridges) t (w .home s) c) (sym h) (k .right c lt) ];
+  }
+  learnt-step (Turn b n a ok) w kp mv k = record {
+    is = k .is;
+    begun = k .begun;
     right = λ c lt. cond-both (eqb c b && (eqb (t .number) n && eqb s a)) (turned b ok (w .learned c (t .number) s)) (w .learned c (t .number) s) (Right (r .bridges) t (w .home s) c)
-      (λ h. absurd (other (eqb c b) (eqb (t .number) n) h mv)) (λ _. k .right c lt) }
+        (λ h. absurd (other (eqb c b) (eqb (t .number) n) h mv)) (λ _. k .right c lt);
+  }
     where
       other : (x y : Bool) → (x && (y && eqb s a)) ≡ true → eqb a s ≡ false → ⊥
       other x y p q = grind (arith, tells)
@@ -136,7 +154,8 @@ module _ (lax : Bool) (r : Rules) (t : Tree) (s : ℕ) (out : (b : ℕ) → r .b
   learnt-start w k e = subst (λ f. Learnt r t s (announceIf t f w)) (sym e) (record {
     is = ap (λ b. cond b (This t) (treeOf (t .number) (w .trees))) (eq-eqb (t .number) (t .number) refl);
     begun = λ x m _ q. absurd (no-tree (k .walks x m .t) (k .walks x m .is) (subst (λ n. treeOf n (w .trees) ≡ NoTree) (sym q) e));
-    right = λ b _. subst (Right (r .bridges) t (w .home s) b) (sym (k .blank b (t .number) s e)) tt })
+    right = λ b _. subst (Right (r .bridges) t (w .home s) b) (sym (k .blank b (t .number) s e)) tt;
+  })
     where
       no-tree : {f : Found} (u : Tree) → f ≡ This u → f ≡ NoTree → ⊥
       no-tree u p q = grind arith
@@ -150,4 +169,4 @@ pub learnt-right : (lax : Bool) (r : Rules) (es later before : List Event) (t : 
     (s b : ℕ) → s < r .stations → b < r .bridges → stays s later ≡ true → NotWrong r (run lax r es) t b s (run lax r es .learned b (t .number) s)
 learnt-right lax r es later before t q e out s b ls lb h =
     subst (λ fs. NotWrong r (run lax r fs) t b s (run lax r fs .learned b (t .number) s)) (sym q)
-      (right-not-wrong r (run lax r (later ++ (Announce t ∷ before))) t b s _ (learnt-since lax r t s out later before e h .right b lb))
+    (right-not-wrong r (run lax r (later ++ (Announce t ∷ before))) t b s _ (learnt-since lax r t s out later before e h .right b lb))

@@ -52,7 +52,6 @@ reach-before n t h b c (a ∷ bs) l w g lc j nb e =
     let la = below-2 n b a bs g in let lb = below-1 n b (a ∷ bs) g in
     is-leads n t l a b h la lb (walk-joined w) (leads-within n t l la lb lc (walk-joined w) (eqb-false c a (not-back-is a bs c nb)) (leads-is n t l b c h lb lc j e))
 
-
 -- what one copy leads to counts no more than it does itself
 module _ (n f h : ℕ) (trees : List Tree) (up : ℕ → ℕ → Bool) (x : Copy) (t : Tree) (e : treeOf (x .frame .tree) trees ≡ This t) (l : looks n t ≡ true) (w : Walk t (x .at ∷ x .trail))
     (g : allBelow n (x .at ∷ x .trail) ≡ true) where
@@ -71,6 +70,7 @@ module _ (n f h : ℕ) (trees : List Tree) (up : ℕ → ℕ → Bool) (x : Copy
     where
       five : (a b c d e : Bool) → ((a && (b && c)) && (d && e)) ≡ true → (a ≡ true) × (c ≡ true) × (d ≡ true) × (e ≡ true)
       five a b c d e h = grind arith
+
       q : (joined t (x .at) c ≡ true) × (notBack (x .trail) c ≡ true) × (eqb (x .frame .number) f ≡ true) × (reach n (treeOf (x .frame .tree) trees) h c (x .at ∷ x .trail) ≡ true)
       q = five _ (up (x .at) c) _ _ _ p
 
@@ -89,31 +89,37 @@ module _ (n f h : ℕ) (trees : List Tree) (up : ℕ → ℕ → Bool) (x : Copy
   pub pass-before : (c : ℕ) → c < n → passes c ≡ true → ahead n f trees h x ≡ true
   pass-before c lc p = let q = passed c p in
       and-from _ _ (q .same) (subst (λ u. reach n u h (x .at) (x .trail) ≡ true) (sym e) (reach-before n t h (x .at) c (x .trail) l w g lc (q .by) (q .forth) (q .lead)))
+
   -- wherever it goes: at most one copy of it has h ahead, and that to a bridge
   pub toward-some : (k : Where) → ((c : ℕ) → k ≡ Behind c → (c < n) ⊎ (c ≡ x .at)) →
       (count (ahead n f trees h) (toward t up x k n) ≡ 0) ⊎ ((c : ℕ) × (c < n) × (passes c ≡ true) × (count (ahead n f trees h) (toward t up x k n) ≤ 1))
   unfolding passes count
   toward-some Unknown b = elim (below-some n passes) [
-      inl z ↦ inl (floods-count (ahead n f trees h) n t up x ∙ z)
-    | inr s ↦ inr (s .0, s .1, s .2, subst (λ m. m ≤ 1) (sym (floods-count (ahead n f trees h) n t up x)) (below-one n passes pass-one)) ]
+    | inl z ↦ inl (floods-count (ahead n f trees h) n t up x ∙ z)
+    | inr s ↦ inr (s .0, s .1, s .2, subst (λ m. m ≤ 1) (sym (floods-count (ahead n f trees h) n t up x)) (below-one n passes pass-one))
+  ]
   toward-some Here b = inl refl
   toward-some (Behind c) b = go (joined t (x .at) c && (up (x .at) c && notBack (x .trail) c)) (ahead n f trees h (copyTo x c)) refl refl
     where
       D : ℕ → Type 0
       D m = (m ≡ 0) ⊎ ((c : ℕ) × (c < n) × (passes c ≡ true) × (m ≤ 1))
+
       off : joined t (x .at) c && (up (x .at) c && notBack (x .trail) c) ≡ true → (c < n) ⊎ (c ≡ x .at) → c < n
       off j (inl lt) = lt
       off j (inr q) = absurd (joined-apart t (x .at) c (and-parts _ _ j .0) (sym q))
+
       go : (p q : Bool) → joined t (x .at) c && (up (x .at) c && notBack (x .trail) c) ≡ p → ahead n f trees h (copyTo x c) ≡ q →
           D (count (ahead n f trees h) (cond p (copyTo x c ∷ []) []))
       go false q e1 e2 = inl refl
       go true false e1 e2 = inl (let y = one-same (ahead n f trees h (copyTo x c)) false e2 in omega arith)
       go true true e1 e2 = inr (c, off e1 (b c refl), and-from _ _ e1 e2, let y = one-same (ahead n f trees h (copyTo x c)) true e2 in omega arith)
+
   pub toward-count : (k : Where) → ((c : ℕ) → k ≡ Behind c → (c < n) ⊎ (c ≡ x .at)) → count (ahead n f trees h) (toward t up x k n) ≤ one (ahead n f trees h x)
   toward-count k b = go (toward-some k b)
     where
       m : ℕ
       m = count (ahead n f trees h) (toward t up x k n)
+
       go : (m ≡ 0) ⊎ ((c : ℕ) × (c < n) × (passes c ≡ true) × (m ≤ 1)) → m ≤ one (ahead n f trees h x)
       go (inl z) = omega arith
       go (inr s) = let y = one-same (ahead n f trees h x) true (pass-before (s .0) (s .1) (s .2)) in let u = s .3 in omega arith
@@ -147,12 +153,16 @@ module _ (lax : Bool) (r : Rules) (f s h : ℕ) (p : Got → Bool) (tal : Tallie
     where
       D : ℕ → Type 0
       D m = (m ≡ 0) ⊎ ((x .frame .number ≡ f) × (x .at ≡ h) × (m ≤ 1))
+
       q : ℕ → Bool
       q c = mayHand lax r w x k c && p (record { frame = x .frame .number; station = c; bridge = x .at })
+
       frame-is : (c : ℕ) → q c ≡ true → x .frame .number ≡ f
       frame-is c u = tal .of-frame _ (and-parts (mayHand lax r w x k c) _ u .1)
+
       station-is : (c : ℕ) → q c ≡ true → c ≡ s
       station-is c u = tal .of-station _ (and-parts (mayHand lax r w x k c) _ u .1)
+
       place-is : (c : ℕ) → q c ≡ true → x .at ≡ h
       place-is c u = pl _ (and-parts (mayHand lax r w x k c) _ u .1) (may-home lax r w x k c (and-parts (mayHand lax r w x k c) _ u .0))
 
@@ -160,18 +170,22 @@ module _ (lax : Bool) (r : Rules) (f s h : ℕ) (p : Got → Bool) (tal : Tallie
   here-counts : (n : ℕ) (trees : List Tree) (x : Copy) (t : Tree) → treeOf (x .frame .tree) trees ≡ This t → looks n t ≡ true → Walk t (x .at ∷ x .trail) →
       (0 < n → allBelow n (x .at ∷ x .trail) ≡ true) → (n ≡ 0 → x .trail ≡ []) → x .frame .number ≡ f → x .at ≡ h → ahead n f trees h x ≡ true
   here-counts n trees x t e l wk g z ef eh = and-from _ _ (eq-eqb _ _ ef) (subst (λ u. reach n u h (x .at) (x .trail) ≡ true) (sym e) (subst (λ y. reach n (This t) y (x .at) (x .trail) ≡ true) eh (reach-here n t (x .at) (x .trail) l wk g z)))
+
   -- what a copy leads to, and what is handed over where it comes, counts no more than it
   forward-count : (n : ℕ) (w : World) (x : Copy) (t : Tree) (k : Where) (m : ℕ) → Placed (w .home) h p → treeOf (x .frame .tree) (w .trees) ≡ This t → looks n t ≡ true → Walk t (x .at ∷ x .trail) →
       (0 < n → allBelow n (x .at ∷ x .trail) ≡ true) → (n ≡ 0 → x .trail ≡ []) → ((c : ℕ) → k ≡ Behind c → (c < n) ⊎ (c ≡ x .at)) →
       count (ahead n f (w .trees) h) (toward t (w .up) x k n) + count p (handed lax r w x k m) ≤ one (ahead n f (w .trees) h x)
   forward-count n w x t k m pl e l wk g z b = elim (handed-some w x k pl m) [
-      inl hz ↦ nothing _ _ _ hz (leads-less n e l g b)
-    | inr hs ↦ something _ _ _ (hs .2) (leads-nowhere n e l g b (hs .1)) (here-counts n (w .trees) x t e l wk g z (hs .0) (hs .1)) ]
+    | inl hz ↦ nothing _ _ _ hz (leads-less n e l g b)
+    | inr hs ↦ something _ _ _ (hs .2) (leads-nowhere n e l g b (hs .1)) (here-counts n (w .trees) x t e l wk g z (hs .0) (hs .1))
+  ]
     where
       nothing : (a b c : ℕ) → b ≡ 0 → a ≤ c → a + b ≤ c
       nothing a b c p q = omega arith
+
       something : (a b : ℕ) (c : Bool) → b ≤ 1 → a ≡ 0 → c ≡ true → a + b ≤ one c
       something a b c p q u = let y = one-same c true u in omega arith
+
       no-bridge : (b : (c : ℕ) → k ≡ Behind c → (c < 0) ⊎ (c ≡ x .at)) → (q : Copy → Bool) → count q (toward t (w .up) x k 0) ≡ 0
       no-bridge b q = count-none q _ (λ y o. absurd (no-one y (toward-mem t (w .up) x k 0 y o)))
         where
@@ -180,10 +194,12 @@ module _ (lax : Bool) (r : Rules) (f s h : ℕ) (p : Got → Bool) (tal : Tallie
             where
               nil : (a : ℕ) → a < 0 → ⊥
               nil a lt = omega arith
+
       leads-less : (n : ℕ) → treeOf (x .frame .tree) (w .trees) ≡ This t → looks n t ≡ true → (0 < n → allBelow n (x .at ∷ x .trail) ≡ true) → ((c : ℕ) → k ≡ Behind c → (c < n) ⊎ (c ≡ x .at)) →
           count (ahead n f (w .trees) h) (toward t (w .up) x k n) ≤ one (ahead n f (w .trees) h x)
       leads-less zero e l g b = let y = no-bridge b (ahead 0 f (w .trees) h) in omega arith
       leads-less (suc n) e l g b = toward-count (suc n) f h (w .trees) (w .up) x t e l wk (g (omega arith)) k b
+
       leads-nowhere : (n : ℕ) → treeOf (x .frame .tree) (w .trees) ≡ This t → looks n t ≡ true → (0 < n → allBelow n (x .at ∷ x .trail) ≡ true) → ((c : ℕ) → k ≡ Behind c → (c < n) ⊎ (c ≡ x .at)) → x .at ≡ h →
           count (ahead n f (w .trees) h) (toward t (w .up) x k n) ≡ 0
       leads-nowhere zero e l g b q = no-bridge b (ahead 0 f (w .trees) h)
@@ -199,8 +215,10 @@ module _ (lax : Bool) (r : Rules) (f s h : ℕ) (p : Got → Bool) (tal : Tallie
     where
       sum : (a b : ℕ) → a ≡ 0 → b ≡ 0 → a + b ≡ 0
       sum a b p q = omega arith
+
       not-yet : (a : ℕ) (b : Bool) → a < w .next → (eqb a f && b) ≡ false
       not-yet a b lt = grind (arith, tells)
+
       not-got : (g : Got) (b : Bool) → p g ≡ b → g .frame < w .next → p g ≡ false
       not-got g true e lt = let q = tal .of-frame g e in absurd (omega arith)
       not-got g false e lt = e
@@ -209,20 +227,25 @@ module _ (lax : Bool) (r : Rules) (f s h : ℕ) (p : Got → Bool) (tal : Tallie
       tally (forward lax r x t (with-copies (without i (w .copies)) w)) ≤ 1
   tally-forward i w x t k pl pk e le =
       sums _ _ _ _ _ _ _ _ (forward-count (r .bridges) w′ x t known (r .stations) pl e (subst (λ u. looks (r .bridges) u ≡ true) same (o .good)) (subst (λ u. Walk u (x .at ∷ x .trail)) same (o .walk)) (o .inside) (o .still) by)
-        (count-pick (ahead (r .bridges) f (w .trees) h) x i (w .copies) pk)
-        (count-append (ahead (r .bridges) f (w .trees) h) (toward t (w .up) x known (r .bridges)) (without i (w .copies)))
-        (count-append p (handed lax r w′ x known (r .stations)) (w .got)) le
+      (count-pick (ahead (r .bridges) f (w .trees) h) x i (w .copies) pk)
+      (count-append (ahead (r .bridges) f (w .trees) h) (toward t (w .up) x known (r .bridges)) (without i (w .copies)))
+      (count-append p (handed lax r w′ x known (r .stations)) (w .got)) le
     where
       w′ : World
       w′ = with-copies (without i (w .copies)) w
+
       known : Where
       known = goesBy lax x (knows w′ x)
+
       o : Walks r (w .trees) x
       o = k .walks x (pick-mem pk)
+
       same : o .t ≡ t
       same = let a = o .is in cc
+
       by : (c : ℕ) → known ≡ Behind c → (c < r .bridges) ⊎ (c ≡ x .at)
       by c q = goes-behind lax r (w .trees) x (knows w x) o (λ d. k .behind (x .at) (x .frame .tree) (x .frame .to) d) c q
+
       sums : (t h x a b l g g′ : ℕ) → t + h ≤ x → a ≡ x + b → l ≡ t + b → g′ ≡ h + g → a + g ≤ 1 → l + g′ ≤ 1
       sums t h x a b l g g′ p q u v z = omega arith
 
@@ -232,20 +255,26 @@ module _ (lax : Bool) (r : Rules) (f s h : ℕ) (p : Got → Bool) (tal : Tallie
     where
       one-more : (n : ℕ) → tally (sendBy r a d (n ∷ []) w) ≤ 1
       one-more n = elim (ℕ-discrete (w .next) f) [
-          yes q ↦ sums _ _ _ (tally-none w k (same-le q)) (at-most-one _)
-        | no ne ↦ others _ _ _ (one-same (ahead (r .bridges) f (w .trees) h (fresh-copy n)) false (other ne _)) le ]
+        | yes q ↦ sums _ _ _ (tally-none w k (same-le q)) (at-most-one _)
+        | no ne ↦ others _ _ _ (one-same (ahead (r .bridges) f (w .trees) h (fresh-copy n)) false (other ne _)) le
+      ]
         where
           fresh-copy : ℕ → Copy
           fresh-copy n = record { frame = record { number = w .next; from = a; to = d; colour = r .colour a; tree = n }; at = w .home a; trail = [] }
+
           same-le : {a b : ℕ} → a ≡ b → a ≤ b
           same-le e = omega arith
+
           at-most-one : (b : Bool) → one b ≤ 1
           at-most-one true = omega arith
           at-most-one false = omega arith
+
           other : (w .next ≡ f → ⊥) → (b : Bool) → (eqb (w .next) f && b) ≡ false
           other ne b = ap (λ c. c && b) (ne-eqb _ _ ne)
+
           sums : (x c g : ℕ) → c + g ≡ 0 → x ≤ 1 → (x + c) + g ≤ 1
           sums x c g p q = omega arith
+
           others : (x c g : ℕ) → x ≡ 0 → c + g ≤ 1 → (x + c) + g ≤ 1
           others x c g p q = omega arith
   tally-step (Arrive i) w k pl le =
@@ -283,6 +312,7 @@ tallied-at f s b = record { of-frame = λ g h. frame-is (g .frame) (g .station) 
   where
     frame-is : (x y z : ℕ) → (eqb x f && (eqb y s && eqb z b)) ≡ true → x ≡ f
     frame-is x y z h = grind (arith, tells)
+
     station-is : (x y z : ℕ) → (eqb x f && (eqb y s && eqb z b)) ≡ true → y ≡ s
     station-is x y z h = grind (arith, tells)
 
@@ -291,6 +321,7 @@ tallied f s = record { of-frame = λ g h. frame-is (g .frame) (g .station) h; of
   where
     frame-is : (x y : ℕ) → (eqb x f && eqb y s) ≡ true → x ≡ f
     frame-is x y h = grind (arith, tells)
+
     station-is : (x y : ℕ) → (eqb x f && eqb y s) ≡ true → y ≡ s
     station-is x y h = grind (arith, tells)
 
@@ -301,6 +332,7 @@ stays-home lax r s e w h = go e w h
   where
     P : ℕ → World → Type 0
     P b v = v .home s ≡ b
+
     go : (e : Event) (w : World) → moves s e ≡ false → happen lax r e w .home s ≡ w .home s
     go (Send a d) w h = send-by lax r (P (w .home s)) a d w refl (λ _ _ _ _ _ _. refl)
     go (Arrive i) w h = arrive-by lax r (P (w .home s)) i (w .copies) (with-copies (without i (w .copies)) w) (λ _. refl) (λ _ _ _. refl) (λ _ _ _ _ _. refl)
@@ -337,10 +369,11 @@ module _ (lax : Bool) (r : Rules) where
   unfolding run stays
   tally-since f s [] before le h = (let z = tally-none lax r f s (run lax r before .home s) (anywhere f s) (tallied f s) (run lax r before) (keeps lax r before) le in omega arith, refl)
   tally-since f s (e ∷ later) before le h =
-      let ih = tally-since f s later before le (and-parts (not (moves s e)) _ h .1) in
-      (tally-step lax r f s (run lax r before .home s) (anywhere f s) (tallied f s) e (run lax r (later ++ before)) (keeps lax r (later ++ before))
-        (λ g p q. sym q ∙ ap (run lax r (later ++ before) .home) (tallied f s .of-station g p) ∙ ih .1) (ih .0),
-       stays-home lax r s e (run lax r (later ++ before)) (not-true _ (and-parts (not (moves s e)) _ h .0)) ∙ ih .1)
+      let ih = tally-since f s later before le (and-parts (not (moves s e)) _ h .1) in (
+        tally-step lax r f s (run lax r before .home s) (anywhere f s) (tallied f s) e (run lax r (later ++ before)) (keeps lax r (later ++ before))
+            (λ g p q. sym q ∙ ap (run lax r (later ++ before) .home) (tallied f s .of-station g p) ∙ ih .1) (ih .0),
+        stays-home lax r s e (run lax r (later ++ before)) (not-true _ (and-parts (not (moves s e)) _ h .0)) ∙ ih .1,
+      )
 
   pub once-if-still : (es later before : List Event) → es ≡ later ++ before → (s : ℕ) → stays s later ≡ true → (f : ℕ) → run lax r before .next ≤ f → countAll f s (run lax r es .got) ≤ 1
   once-if-still es later before e s h f le =

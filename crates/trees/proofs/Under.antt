@@ -26,8 +26,9 @@ looks-rest n t l = grind (arith, tells)
 pub nearer : (n : ℕ) (t : Tree) → looks n t ≡ true → (b : ℕ) → b < n → (t .above b ≡ b) ⊎ (t .far (t .above b) < t .far b)
 nearer zero t l b lt = absurd (omega arith)
 nearer (suc n) t l b lt = elim (ℕ-discrete b n) [
-    yes e ↦ subst (λ c. (t .above c ≡ c) ⊎ (t .far (t .above c) < t .far c)) (sym e) (looks-last n t l)
-  | no k ↦ nearer n t (looks-rest n t l) b (omega arith) ]
+  | yes e ↦ subst (λ c. (t .above c ≡ c) ⊎ (t .far (t .above c) < t .far c)) (sym e) (looks-last n t l)
+  | no k ↦ nearer n t (looks-rest n t l) b (omega arith)
+]
 
 pub under-trans : {n : ℕ} {t : Tree} {a b x : ℕ} → Under n t a b → Under n t b x → Under n t a x
 under-trans {n} {t} {a} u (self e) = subst (λ y. Under n t a y) (sym e) u
