@@ -2,25 +2,14 @@
 use super::*;
 use std::test::*;
 
-// What happens to a table, and what it must then say.
+// What happens to a table, and what it must then say of a station.
 #[derive(Clone, Copy)]
 enum Step {
-    Hear {
-        station: u16,
-        port: u8,
-        tick: u64,
-        keep: u16,
-    },
-    Forget {
-        tick: u64,
-    },
-    Known {
-        station: u16,
-        port: u8,
-    },
-    Unknown {
-        station: u16,
-    },
+    // a station, its port, the tick, and the station that the frame is for
+    Hear(u16, u8, u64, u16),
+    Forget(u64),
+    Known(u16, u8),
+    Unknown(u16),
 }
 
 use Step::Forget;
@@ -31,8 +20,9 @@ use Step::Unknown;
 // Stations by short numbers; from 32,768 on their addresses are those of groups.
 fn numbered(n: u16) -> Station {
     let [high, low] = n.to_be_bytes();
+    let first = (n / 32768) as u8;
     Station {
-        address: [(n / 32768) as u8, 0, 0, 0, high, low],
+        address: [first, 0, 0, 0, high, low],
         vlan: 7,
     }
 }
@@ -44,32 +34,27 @@ fn port_of(location: Option<Location>) -> Option<u8> {
     }
 }
 
+fn hear(table: &mut Table, n: u16, port: u8, tick: u64, keep: u16) {
+    table.learn(numbered(n), Location::Here(port), tick, numbered(keep));
+}
+
 // How many steps went as they must.
 fn play(table: &mut Table, steps: &[Step]) -> usize {
     for (i, step) in steps.iter().enumerate() {
-        match *step {
-            Hear {
-                station,
-                port,
-                tick,
-                keep,
-            } => table.learn(
-                numbered(station),
-                Location::Here(port),
-                tick,
-                numbered(keep),
-            ),
-            Forget { tick } => table.forget(tick),
-            Known { station, port } => {
-                if port_of(table.lookup(numbered(station))) != Some(port) {
-                    return i;
-                }
+        let (n, said) = match *step {
+            Hear(n, port, tick, keep) => {
+                hear(table, n, port, tick, keep);
+                continue;
             }
-            Unknown { station } => {
-                if table.lookup(numbered(station)).is_some() {
-                    return i;
-                }
+            Forget(tick) => {
+                table.forget(tick);
+                continue;
             }
+            Known(n, port) => (n, Some(port)),
+            Unknown(n) => (n, None),
+        };
+        if port_of(table.lookup(numbered(n))) != said {
+            return i;
         }
     }
     steps.len()
@@ -77,107 +62,46 @@ fn play(table: &mut Table, steps: &[Step]) -> usize {
 
 #[test]
 fn stations() -> Result<(), Fail> {
+    let address = [255, 254, 253, 252, 251, 250];
     let last = Station {
-        address: [255, 254, 253, 252, 251, 250],
+        address,
         vlan: 4095,
     };
     check_eq(last.number(), 0xFFF_EFDF_CFBF_AFFF)?;
-    check(
-        last.is_group()
-            && !numbered(2).is_group()
-            && Station::new([2, 0, 0, 0, 0, 0], 4096).is_none(),
-    )
+    check(last.is_group() && !numbered(2).is_group())?;
+    check(Station::new(address, 4096).is_none())
 }
 
 const LIFETIMES: [Step; 12] = [
-    Hear {
-        station: 1,
-        port: 3,
-        tick: 1000,
-        keep: 2,
-    },
-    Forget { tick: 1299 },
-    Known {
-        station: 1,
-        port: 3,
-    },
-    Forget { tick: 1300 },
-    Unknown { station: 1 },
-    Hear {
-        station: 1,
-        port: 3,
-        tick: 1300,
-        keep: 2,
-    },
-    Hear {
-        station: 1,
-        port: 9,
-        tick: 1301,
-        keep: 2,
-    },
-    Forget { tick: 1600 },
-    Known {
-        station: 1,
-        port: 9,
-    },
-    Forget { tick: 1602 },
-    Unknown { station: 1 },
-    Unknown { station: 2 },
+    Hear(1, 3, 1000, 2),
+    Forget(1299),
+    Known(1, 3),
+    Forget(1300),
+    Unknown(1),
+    Hear(1, 3, 1300, 2),
+    Hear(1, 9, 1301, 2),
+    Forget(1600),
+    Known(1, 9),
+    Forget(1602),
+    Unknown(1),
+    Unknown(2),
 ];
 
 // 9000 to 4905 were heard in tick 5, in that order. 9000 is heard again and 8999 is kept, so 8998 is the first heard of those that may go.
 const FULL: [Step; 13] = [
-    Known {
-        station: 9000,
-        port: 1,
-    },
-    Known {
-        station: 4905,
-        port: 1,
-    },
-    Hear {
-        station: 9000,
-        port: 2,
-        tick: 5,
-        keep: 1,
-    },
-    Known {
-        station: 8999,
-        port: 1,
-    },
-    Hear {
-        station: 1,
-        port: 4,
-        tick: 5,
-        keep: 8999,
-    },
-    Unknown { station: 8998 },
-    Known {
-        station: 8999,
-        port: 1,
-    },
-    Hear {
-        station: 2,
-        port: 4,
-        tick: 6,
-        keep: 1,
-    },
-    Unknown { station: 8999 },
-    Known {
-        station: 9000,
-        port: 2,
-    },
-    Known {
-        station: 1,
-        port: 4,
-    },
-    Hear {
-        station: 40000,
-        port: 4,
-        tick: 6,
-        keep: 1,
-    },
-    Unknown { station: 40000 },
+    Known(9000, 1),
+    Known(4905, 1),
+    Hear(9000, 2, 5, 1),
+    Known(8999, 1),
+    Hear(1, 4, 5, 8999),
+    Unknown(8998),
+    Known(8999, 1),
+    Hear(2, 4, 6, 1),
+    Unknown(8999),
+    Known(9000, 2),
+    Known(1, 4),
+    Hear(40000, 4, 6, 1),
+    Unknown(40000),
 ];
 
 #[test]
@@ -185,7 +109,7 @@ fn edges(rt: LibcRuntime) -> Result<(), Fail> {
     let mut table = Table::new(rt.alloc())?;
     check_eq(play(&mut table, &LIFETIMES), 12)?;
     for n in 0..4096u16 {
-        table.learn(numbered(9000 - n), Location::Here(1), 5, numbered(1));
+        hear(&mut table, 9000 - n, 1, 5, 1);
     }
     check_eq(play(&mut table, &FULL), 13)?;
     table.clear();
