@@ -3,7 +3,7 @@ ghost use mathlib.Core.Path.{_≡_};
 ghost use Rattle.std.specs.Options.{isSome, mapped};
 ghost use Rattle.std.specs.Vec.{made};
 ghost use Rattle.pending.specs.Waits.{messageOf};
-ghost use Rattle.queues.specs.Port.{portOf, idle, messageIn, frameIn, outOf, afterOut};
+ghost use Rattle.queues.specs.Port.{portOf, idle, messageIn, frameIn, outOf, afterOut, refilled, emptied};
 use pending::Control;
 use pending::Pending;
 use rows::budget::Budget;
@@ -61,5 +61,19 @@ impl PortQueue {
             return false;
         }
         self.budget.take()
+    }
+
+    // A hold-down: frames are dropped, and messages go on.
+    pub(crate) fn clear(&mut self)
+        ensures { λ _. ⌜ portOf (now (self .exit)) ≡ emptied (portOf (now (self .entry))) ⌝ }
+    {
+        self.row.clear();
+    }
+
+    // A tick passed: as many frames may leave again.
+    pub(crate) fn tick(&mut self)
+        ensures { λ _. ⌜ portOf (now (self .exit)) ≡ refilled (portOf (now (self .entry))) ⌝ }
+    {
+        self.budget.refill();
     }
 }

@@ -7,11 +7,7 @@ fn all_rows_full(rt: LibcRuntime) -> Result<(), Fail> {
     let mut queues = Queues::new(rt.alloc())?;
     for port in 0..18usize {
         for n in 0..17u8 {
-            let Some(slot) = queues.place(port) else {
-                check(port >= 16 || n == 16)?;
-                continue;
-            };
-            check(port < 16 && n < 16 && slot.append(&[n]))?;
+            check(queues.enqueue(port, &[n]) == (port < 16 && n < 16))?;
         }
     }
     for port in 0..16usize {

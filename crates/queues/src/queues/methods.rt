@@ -1,9 +1,9 @@
 ghost use mathlib.Core.Path.{_≡_};
-ghost use mathlib.Core.Bool.{true, false};
+ghost use mathlib.Core.Bool.{true, false, cond, _&&_};
 ghost use mathlib.Core.List.{[], map};
 ghost use Prim.Native.Nat.{_≤_, _<_};
-ghost use lib.Dec.{ltb};
-ghost use lib.ListN.{replicate};
+ghost use lib.Dec.{leb, ltb};
+ghost use lib.ListN.{length, replicate};
 ghost use ghost.Atoms.{sem};
 ghost use denote.Ref.{name};
 ghost use denote.Follow.{follows-so};
@@ -23,6 +23,7 @@ use super::Queues;
 use crate::PortQueue;
 use pending::Control;
 use pending::Pending;
+use rows::slot::LONGEST_FRAME;
 use rows::slot::Slot;
 use std::alloc::AllocError;
 use std::alloc::Global;
@@ -48,6 +49,21 @@ impl Queues {
             return None;
         }
         self.ports[port].row.push()
+    }
+
+    // Puts a frame behind those that wait at a port; false, and nothing changed, if it is too long, or the port is not there
+    // or has no room.
+    pub fn enqueue(&mut self, port: usize, bytes: &[u8]) -> bool
+        ensures taken { λ r. ⌜ r ≡ (leb (length (now (bytes .entry))) 1529 && roomAt port (portsOf (now (self .entry)))) ⌝ }
+        ensures after { λ r. ⌜ portsOf (now (self .exit)) ≡ cond r (changed port (withFrame (now (bytes .entry))) (portsOf (now (self .entry)))) (portsOf (now (self .entry))) ⌝ }
+    {
+        if bytes.len() > LONGEST_FRAME {
+            return false;
+        }
+        let Some(slot) = self.place(port) else {
+            return false;
+        };
+        slot.append(bytes)
     }
 
     // Lends the messages that wait at a port, for more to be added; `None` if the port is not there.
@@ -90,7 +106,7 @@ impl Queues {
         ensures some { λ r. ⌜ r ≡ isSome (outAt port (portsOf (now (self .entry)))) ⌝ }
         ensures after { λ _. ⌜ portsOf (now (self .exit)) ≡ changed port afterOut (portsOf (now (self .entry))) ⌝ }
     {
-        if port < self.ports.len() {
+        if port < PORTS {
             self.ports[port].sent()
         } else {
             false
@@ -101,8 +117,8 @@ impl Queues {
     pub fn clear(&mut self, port: usize)
         ensures { λ _. ⌜ portsOf (now (self .exit)) ≡ changed port emptied (portsOf (now (self .entry))) ⌝ }
     {
-        if PORTS > port {
-            self.ports[port].row.clear();
+        if port < PORTS {
+            self.ports[port].clear();
         }
     }
 
@@ -111,7 +127,7 @@ impl Queues {
         ensures { λ _. ⌜ portsOf (now (self .exit)) ≡ map emptied (portsOf (now (self .entry))) ⌝ }
     {
         for port in 0..PORTS {
-            self.ports[port].row.clear();
+            self.ports[port].clear();
         }
     }
 
@@ -120,7 +136,7 @@ impl Queues {
         ensures { λ _. ⌜ portsOf (now (self .exit)) ≡ map refilled (portsOf (now (self .entry))) ⌝ }
     {
         for i in 0..PORTS {
-            self.ports[i].budget.refill();
+            self.ports[i].tick();
         }
     }
 }
