@@ -1,11 +1,13 @@
 // CRC-32 as in IEEE 802.3: the sum that ends every message between bridges.
 mod bits;
 mod burst;
+mod exported;
 mod slices;
 mod tables;
 
 pub use bits::bitwise;
 pub use burst::bursts_are_told;
+pub use exported::bridge_crc32;
 pub use slices::checksum;
 
 #[cfg(test)]
