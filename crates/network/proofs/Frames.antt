@@ -30,7 +30,7 @@ use Rattle.network.proofs.Handing.{getters-so}
 use Rattle.network.proofs.Standing.{Stands, StandsOf, stands, with-bridge, bridge-same, View, whole, homes-stay}
 use Rattle.network.proofs.Learning.{with-tables, forgetting}
 
-place-came : (came : Came) → placeAt (locate came) ≡ sender came
+pub place-came : (came : Came) → placeAt (locate came) ≡ sender came
 place-came (ByPort p) = refl
 place-came (ByBridge b) = refl
 
@@ -101,7 +101,7 @@ heard-older m true false f s p r h k = absurd (grind arith)
 heard-older m false true f s p r h k = absurd (grind arith)
 heard-older m false false f s p r h k = refl
 
-is-tree : (u : ℕ) (tree : Found) (t : Tree) → tree ≡ This t → isTree u tree ≡ eqb u (t .number)
+pub is-tree : (u : ℕ) (tree : Found) (t : Tree) → tree ≡ This t → isTree u tree ≡ eqb u (t .number)
 is-tree u tree t h = subst (λ f. isTree u f ≡ eqb u (t .number)) (sym h) (flip (t .number) u)
   where
     flip : (a b : ℕ) → eqb a b ≡ eqb b a
