@@ -44,14 +44,14 @@ pick-mem zero (y ∷ ys) x e = let q : x ≡ y = cc in List·Memᴰ·head q
 pick-mem (suc i) (y ∷ ys) x e = List·Memᴰ·tail (pick-mem i ys x e)
 
 -- a bridge holds the trees of its two slots
-holds-either : (u : ℕ) (newest older : Found) → isIn u (numbers (treeIn newest ++ treeIn older)) ≡ (isTree u newest || isTree u older)
+pub holds-either : (u : ℕ) (newest older : Found) → isIn u (numbers (treeIn newest ++ treeIn older)) ≡ (isTree u newest || isTree u older)
 unfolding numbers isIn
 holds-either u NoTree NoTree = refl
 holds-either u NoTree (This t) = grind (arith, tells)
 holds-either u (This t) NoTree = grind (arith, tells)
 holds-either u (This t) (This v) = grind (arith, tells)
 
-tree-of : (u : ℕ) (tree : Found) → isTree u tree ≡ true → (t : Tree) × (tree ≡ This t) × (t .number ≡ u)
+pub tree-of : (u : ℕ) (tree : Found) → isTree u tree ≡ true → (t : Tree) × (tree ≡ This t) × (t .number ≡ u)
 tree-of u NoTree e = absurd (grind arith)
 tree-of u (This t) e = let q : t .number ≡ u = grind (arith, tells) in (t, refl, q)
 

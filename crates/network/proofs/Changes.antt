@@ -84,7 +84,7 @@ crashing n b s w lt i = whole n b (crashed s) _ (record {
     v = view n b s w lt i
 
 -- the tree that is adopted comes first, then the one that was the newest
-adopts-holds : (t : Tree) (newest older : Found) → (none newest ≡ true → none older ≡ true) → numbers ((t ∷ []) ++ treeIn newest) ≡ two (t .number ∷ numbers (treeIn newest ++ treeIn older))
+pub adopts-holds : (t : Tree) (newest older : Found) → (none newest ≡ true → none older ≡ true) → numbers ((t ∷ []) ++ treeIn newest) ≡ two (t .number ∷ numbers (treeIn newest ++ treeIn older))
 unfolding numbers two
 adopts-holds t NoTree NoTree h = refl
 adopts-holds t NoTree (This u) h = absurd (let q = h refl in grind arith)

@@ -30,7 +30,7 @@ use Rattle.network.proofs.Handing.{getters-so}
 use Rattle.network.proofs.Standing.{Stands, StandsOf, stands, with-bridge, bridge-same, View, whole, homes-stay}
 use Rattle.network.proofs.Learning.{with-tables, forgetting}
 
-place-came : (came : Came) → placeAt (locate came) ≡ sender came
+pub place-came : (came : Came) → placeAt (locate came) ≡ sender came
 place-came (ByPort p) = refl
 place-came (ByBridge b) = refl
 
@@ -101,29 +101,44 @@ heard-older m true false f s p r h k = absurd (grind arith)
 heard-older m false true f s p r h k = absurd (grind arith)
 heard-older m false false f s p r h k = refl
 
-is-tree : (u : ℕ) (tree : Found) (t : Tree) → tree ≡ This t → isTree u tree ≡ eqb u (t .number)
+pub is-tree : (u : ℕ) (tree : Found) (t : Tree) → tree ≡ This t → isTree u tree ≡ eqb u (t .number)
 is-tree u tree t h = subst (λ f. isTree u f ≡ eqb u (t .number)) (sym h) (flip (t .number) u)
   where
     flip : (a b : ℕ) → eqb a b ≡ eqb b a
     flip a b = grind (arith, tells)
 
+-- what a bridge knows once it has noted whence a sender's frame came, before anybody goes for want of room
+module _ (from to tick : ℕ) (came : Came) where
+  abbrev pub entry : Slot → Entry
+  entry slot = record { station = from; location = locate came; tick = tick; order = slot .table .heard }
+
+  abbrev pub noted : Slot → Contents
+  noted slot = record { entries = put (entry slot) (slot .table .entries); heard = next (slot .table .heard) }
+
+  noted-look : (slot : Slot) (q : ℕ) → look (put (entry slot) (slot .table .entries)) q ≡ cond (eqb q from) (sender came) (lookIn slot q)
+  noted-look slot q = look-put (entry slot) (slot .table .entries) q ∙ ap (λ p. cond (eqb q from) p (lookIn slot q)) (place-came came)
+
+  heard-look : (slot : Slot) → lookIn (heardIn (locate came) from to tick slot) to ≡ cond (eqb to from) (sender came) (lookIn slot to)
+  heard-look slot = learned-keeps (entry slot) to (slot .table .entries) ∙ ap (λ p. cond (eqb to from) p (lookIn slot to)) (place-came came)
+
+  -- along its newest tree, and along its older one
+  pub noted-newest : (s : State) (tree : ℕ) → ((u : ℕ) → isTree u (s .newest .tree) ≡ eqb u tree) →
+      (u q : ℕ) → placeIn (with-tables s (noted (s .newest)) (s .older .table)) u q ≡ cond (eqb u tree && eqb q from) (sender came) (placeIn s u q)
+  noted-newest s tree h u q = ap (λ p. cond (isTree u (s .newest .tree)) p (cond (isTree u (s .older .tree)) (lookIn (s .older) q) Nowhere)) (noted-look (s .newest) q) ∙
+      heard-newest (isTree u (s .newest .tree)) (eqb u tree) (eqb q from) (sender came) (lookIn (s .newest) q) (cond (isTree u (s .older .tree)) (lookIn (s .older) q) Nowhere) (h u)
+
+  pub noted-older : (s : State) (tree : ℕ) → ((u : ℕ) → isTree u (s .older .tree) ≡ eqb u tree) → isTree tree (s .newest .tree) ≡ false →
+      (u q : ℕ) → placeIn (with-tables s (s .newest .table) (noted (s .older))) u q ≡ cond (eqb u tree && eqb q from) (sender came) (placeIn s u q)
+  noted-older s tree h d u q = ap (λ p. cond (isTree u (s .newest .tree)) (lookIn (s .newest) q) (cond (isTree u (s .older .tree)) p Nowhere)) (noted-look (s .older) q) ∙
+      heard-older (isTree u (s .newest .tree)) (isTree u (s .older .tree)) (eqb u tree) (eqb q from) (sender came) (lookIn (s .newest) q) (lookIn (s .older) q) (h u) other
+    where
+      other : eqb u tree ≡ true → isTree u (s .newest .tree) ≡ false
+      other e = let q : u ≡ tree = grind (arith, tells) in subst (λ v. isTree v (s .newest .tree) ≡ false) (sym q) d
+
 module _ (n : Network) (w : World) (x : Copy) (t : Tree) (came : Came) (tick : ℕ) (inside : x .at < 128) (i : Simulates n w) (numbered : n .bridge (x .at) .number ≡ x .at) (along : t .number ≡ x .frame .tree)
     (back : (c : ℕ) → notToBridge came c ≡ notBack (x .trail) c) (from-so : whereIs (x .at) (n .plug (x .frame .from)) (sender came) ≡ cameBy (x .trail)) where
   abbrev bridge : State
   bridge = n .bridge (x .at)
-
-  -- the sender's entry, and the table with it, before anybody goes for want of room
-  abbrev entry : Slot → Entry
-  entry slot = record { station = x .frame .from; location = locate came; tick = tick; order = slot .table .heard }
-
-  abbrev noted : Slot → Contents
-  noted slot = record { entries = put (entry slot) (slot .table .entries); heard = next (slot .table .heard) }
-
-  noted-look : (slot : Slot) (q : ℕ) → look (put (entry slot) (slot .table .entries)) q ≡ cond (eqb q (x .frame .from)) (sender came) (lookIn slot q)
-  noted-look slot q = look-put (entry slot) (slot .table .entries) q ∙ ap (λ p. cond (eqb q (x .frame .from)) p (lookIn slot q)) (place-came came)
-
-  heard-look : (slot : Slot) → lookIn (heardIn (locate came) (x .frame .from) (x .frame .to) tick slot) (x .frame .to) ≡ cond (eqb (x .frame .to) (x .frame .from)) (sender came) (lookIn slot (x .frame .to))
-  heard-look slot = learned-keeps (entry slot) (x .frame .to) (slot .table .entries) ∙ ap (λ p. cond (eqb (x .frame .to) (x .frame .from)) p (lookIn slot (x .frame .to))) (place-came came)
 
   is-its : (u : ℕ) (tree : Found) → tree ≡ This t → isTree u tree ≡ eqb u (x .frame .tree)
   is-its u tree h = is-tree u tree t h ∙ ap (eqb u) along
@@ -135,37 +150,29 @@ module _ (n : Network) (w : World) (x : Copy) (t : Tree) (came : Came) (tick : �
       goesOut (portsOf (bridge .ports)) (bridge .number) tree (x .frame .colour) came k p ≡ outBy (portsOf (bridge .ports)) (x .at) t (x .frame .colour) came k p
   outs tree h k p = ap (λ f. goesOut (portsOf (bridge .ports)) (bridge .number) f (x .frame .colour) came k p) h ∙ ap (λ b. outBy (portsOf (bridge .ports)) b t (x .frame .colour) came k p) numbered
 
+  abbrev out : Way → ℕ → Bool
+  out way = goes way (after way (locate came) (x .frame .from) (x .frame .to) tick bridge) (x .frame .colour) came (x .frame .to)
+
+  abbrev heard : Slot → Slot
+  heard slot = heardIn (locate came) (x .frame .from) (x .frame .to) tick slot
+
+  abbrev note : Slot → Contents
+  note slot = noted (x .frame .from) (x .frame .to) tick came slot
+
   -- along the newest tree
   pub along-newest : bridge .newest .tree ≡ This t → (fs : List Event) × Simulates (handled n Newest came x tick (n .flying) (n .next)) (follow fs (forward false rules x t w))
-  along-newest h = forgetting (gone-on n w x t came inside i back from-so (goes Newest after-it (x .frame .colour) came (x .frame .to)) (lookIn heard (x .frame .to))) (x .at) (with-tables bridge (noted (bridge .newest)) (bridge .older .table)) (heard .table) (bridge .older .table)
-      (forward false rules x t w) inside (λ q. learned-fades (entry (bridge .newest)) (x .frame .to) (bridge .newest .table .entries) q) (λ q. inl refl)
-      (forwarding n w x t came inside i back from-so (noted (bridge .newest)) (bridge .older .table) (lookIn heard (x .frame .to)) (goes Newest after-it (x .frame .colour) came (x .frame .to))
-      (λ u q. ap (λ p. cond (isTree u (bridge .newest .tree)) p (cond (isTree u (bridge .older .tree)) (lookIn (bridge .older) q) Nowhere)) (noted-look (bridge .newest) q) ∙
-      heard-newest (isTree u (bridge .newest .tree)) (eqb u (x .frame .tree)) (eqb q (x .frame .from)) (sender came) (lookIn (bridge .newest) q) (cond (isTree u (bridge .older .tree)) (lookIn (bridge .older) q) Nowhere) (is-its u (bridge .newest .tree) h))
-      (heard-look (bridge .newest) ∙ rw (its (bridge .newest .tree) h))
-      (outs (bridge .newest .tree) h (lookIn heard (x .frame .to))))
-    where
-      heard : Slot
-      heard = heardIn (locate came) (x .frame .from) (x .frame .to) tick (bridge .newest)
-
-      after-it : State
-      after-it = after Newest (locate came) (x .frame .from) (x .frame .to) tick bridge
+  along-newest h = forgetting (gone-on n w x t came inside i back from-so (out Newest) (lookIn (heard (bridge .newest)) (x .frame .to))) (x .at) (with-tables bridge (note (bridge .newest)) (bridge .older .table)) (heard (bridge .newest) .table) (bridge .older .table)
+      (forward false rules x t w) inside (λ q. learned-fades (entry (x .frame .from) (x .frame .to) tick came (bridge .newest)) (x .frame .to) (bridge .newest .table .entries) q) (λ q. inl refl)
+      (forwarding n w x t came inside i back from-so (note (bridge .newest)) (bridge .older .table) (lookIn (heard (bridge .newest)) (x .frame .to)) (out Newest)
+      (noted-newest (x .frame .from) (x .frame .to) tick came bridge (x .frame .tree) (λ u. is-its u (bridge .newest .tree) h))
+      (heard-look (x .frame .from) (x .frame .to) tick came (bridge .newest) ∙ rw (its (bridge .newest .tree) h))
+      (outs (bridge .newest .tree) h (lookIn (heard (bridge .newest)) (x .frame .to))))
 
   -- along the older one
   pub along-older : isTree (x .frame .tree) (bridge .newest .tree) ≡ false → bridge .older .tree ≡ This t → (fs : List Event) × Simulates (handled n Older came x tick (n .flying) (n .next)) (follow fs (forward false rules x t w))
-  along-older d h = forgetting (gone-on n w x t came inside i back from-so (goes Older after-it (x .frame .colour) came (x .frame .to)) (lookIn heard (x .frame .to))) (x .at) (with-tables bridge (bridge .newest .table) (noted (bridge .older))) (bridge .newest .table) (heard .table)
-      (forward false rules x t w) inside (λ q. inl refl) (λ q. learned-fades (entry (bridge .older)) (x .frame .to) (bridge .older .table .entries) q)
-      (forwarding n w x t came inside i back from-so (bridge .newest .table) (noted (bridge .older)) (lookIn heard (x .frame .to)) (goes Older after-it (x .frame .colour) came (x .frame .to))
-      (λ u q. ap (λ p. cond (isTree u (bridge .newest .tree)) (lookIn (bridge .newest) q) (cond (isTree u (bridge .older .tree)) p Nowhere)) (noted-look (bridge .older) q) ∙
-      heard-older (isTree u (bridge .newest .tree)) (isTree u (bridge .older .tree)) (eqb u (x .frame .tree)) (eqb q (x .frame .from)) (sender came) (lookIn (bridge .newest) q) (lookIn (bridge .older) q) (is-its u (bridge .older .tree) h) (not-its u))
-      (heard-look (bridge .older) ∙ rw (d, its (bridge .older .tree) h))
-      (outs (bridge .older .tree) h (lookIn heard (x .frame .to))))
-    where
-      heard : Slot
-      heard = heardIn (locate came) (x .frame .from) (x .frame .to) tick (bridge .older)
-
-      after-it : State
-      after-it = after Older (locate came) (x .frame .from) (x .frame .to) tick bridge
-
-      not-its : (u : ℕ) → eqb u (x .frame .tree) ≡ true → isTree u (bridge .newest .tree) ≡ false
-      not-its u e = let q : u ≡ x .frame .tree = grind (arith, tells) in subst (λ v. isTree v (bridge .newest .tree) ≡ false) (sym q) d
+  along-older d h = forgetting (gone-on n w x t came inside i back from-so (out Older) (lookIn (heard (bridge .older)) (x .frame .to))) (x .at) (with-tables bridge (bridge .newest .table) (note (bridge .older))) (bridge .newest .table) (heard (bridge .older) .table)
+      (forward false rules x t w) inside (λ q. inl refl) (λ q. learned-fades (entry (x .frame .from) (x .frame .to) tick came (bridge .older)) (x .frame .to) (bridge .older .table .entries) q)
+      (forwarding n w x t came inside i back from-so (bridge .newest .table) (note (bridge .older)) (lookIn (heard (bridge .older)) (x .frame .to)) (out Older)
+      (noted-older (x .frame .from) (x .frame .to) tick came bridge (x .frame .tree) (λ u. is-its u (bridge .older .tree) h) d)
+      (heard-look (x .frame .from) (x .frame .to) tick came (bridge .older) ∙ rw (d, its (bridge .older .tree) h))
+      (outs (bridge .older .tree) h (lookIn (heard (bridge .older)) (x .frame .to))))

@@ -78,53 +78,65 @@ none-found q es h = go (find q es) h
     go None h = refl
     go (Some e) h = absurd (grind arith)
 
+-- what a bridge knew, and what it knows now, by tree and station
+module _ (s : State) (new : ℕ → ℕ → Place) where
+  -- the stations of which nothing is known any more along the tree of a slot
+  pub goneFrom : Slot → List ℕ
+  goneFrom slot = gone (new (numberIn (slot .tree))) (slot .table .entries)
+
+  gone-test : (slot : Slot) (t q : ℕ) → (isTree t (slot .tree) && isIn q (goneFrom slot)) ≡ (isTree t (slot .tree) && (nowhere (new t q) && isSome (find q (slot .table .entries))))
+  unfolding goneFrom
+  gone-test slot t q = by-test (isTree t (slot .tree)) (λ v. (v && isIn q (goneFrom slot)) ≡ (v && (nowhere (new t q) && isSome (find q (slot .table .entries)))))
+      (λ e. subst (λ k. isIn q (goneFrom slot) ≡ (nowhere (new k q) && isSome (find q (slot .table .entries)))) (is-number t (slot .tree) e)
+      (gone-so (new (numberIn (slot .tree))) (slot .table .entries) q)) (λ _. refl)
+
+  -- once those are forgotten, what is known is what the bridge knows now
+  pub gone-told : (b : ℕ) (pl : Plug) (k : Where) (t q : ℕ) → Fades (placeIn s t q) (new t q) → whereIs b pl (placeIn s t q) ≡ k →
+      whereIs b pl (new t q) ≡ cond (isTree t (s .newest .tree) && isIn q (goneFrom (s .newest))) Unknown (cond (isTree t (s .older .tree) && isIn q (goneFrom (s .older))) Unknown k)
+  gone-told b pl k t q f h = rw (gone-test (s .newest) t q, gone-test (s .older) t q) (forgotten (isTree t (s .newest .tree)) (isTree t (s .older .tree)) (isSome (find q (s .newest .table .entries))) (isSome (find q (s .older .table .entries)))
+      (lookIn (s .newest) q) (lookIn (s .older) q) (new t q) b pl k f (none-found q (s .newest .table .entries)) (none-found q (s .older .table .entries)) h)
+
+-- two tables fade
+pub tables-fade : (s : State) (c d : Contents) → ((q : ℕ) → Fades (lookIn (s .newest) q) (look (c .entries) q)) → ((q : ℕ) → Fades (lookIn (s .older) q) (look (d .entries) q)) →
+    (t q : ℕ) → Fades (placeIn s t q) (placeIn (with-tables s c d) t q)
+tables-fade s c d f g t q = placed-fades (isTree t (s .newest .tree)) (isTree t (s .older .tree)) _ _ _ _ (f q) (g q)
+
 module _ (n : Network) (b : ℕ) (s : State) (c d : Contents) where
-  goneFrom : Slot → List ℕ
-  goneFrom slot = gone (placeIn (with-tables s c d) (numberIn (slot .tree))) (slot .table .entries)
+  abbrev goes : Slot → List ℕ
+  goes slot = goneFrom s (placeIn (with-tables s c d)) slot
 
   -- what is forgotten
   forgets : List Event
-  forgets = forgetsIn b (s .newest .tree) (goneFrom (s .newest)) ++ forgetsIn b (s .older .tree) (goneFrom (s .older))
+  forgets = forgetsIn b (s .newest .tree) (goes (s .newest)) ++ forgetsIn b (s .older .tree) (goes (s .older))
 
-  forgets-world : (w : World) → follow forgets w ≡ relearnt (forgotIn b (s .newest .tree) (goneFrom (s .newest)) (forgotIn b (s .older .tree) (goneFrom (s .older)) (w .learned))) w
+  forgets-world : (w : World) → follow forgets w ≡ relearnt (forgotIn b (s .newest .tree) (goes (s .newest)) (forgotIn b (s .older .tree) (goes (s .older)) (w .learned))) w
   unfolding forgets
-  forgets-world w = follow-append (forgetsIn b (s .newest .tree) (goneFrom (s .newest))) _ w ∙
-      (ap (follow (forgetsIn b (s .newest .tree) (goneFrom (s .newest)))) (forgets-so b (s .older .tree) (goneFrom (s .older)) w) ∙
-      forgets-so b (s .newest .tree) (goneFrom (s .newest)) (relearnt (forgotIn b (s .older .tree) (goneFrom (s .older)) (w .learned)) w))
-
-  gone-test : (slot : Slot) (t q : ℕ) → (isTree t (slot .tree) && isIn q (goneFrom slot)) ≡ (isTree t (slot .tree) && (nowhere (placeIn (with-tables s c d) t q) && isSome (find q (slot .table .entries))))
-  unfolding goneFrom
-  gone-test slot t q = by-test (isTree t (slot .tree)) (λ v. (v && isIn q (goneFrom slot)) ≡ (v && (nowhere (placeIn (with-tables s c d) t q) && isSome (find q (slot .table .entries)))))
-      (λ e. subst (λ k. isIn q (goneFrom slot) ≡ (nowhere (placeIn (with-tables s c d) k q) && isSome (find q (slot .table .entries)))) (is-number t (slot .tree) e)
-      (gone-so (placeIn (with-tables s c d) (numberIn (slot .tree))) (slot .table .entries) q)) (λ _. refl)
+  forgets-world w = follow-append (forgetsIn b (s .newest .tree) (goes (s .newest))) _ w ∙
+      (ap (follow (forgetsIn b (s .newest .tree) (goes (s .newest)))) (forgets-so b (s .older .tree) (goes (s .older)) w) ∙
+      forgets-so b (s .newest .tree) (goes (s .newest)) (relearnt (forgotIn b (s .older .tree) (goes (s .older)) (w .learned)) w))
 
   -- a bridge's tables fade: it forgets
   pub forgetting : (w : World) → b < 128 → ((q : ℕ) → Fades (lookIn (s .newest) q) (look (c .entries) q)) → ((q : ℕ) → Fades (lookIn (s .older) q) (look (d .entries) q)) →
       Simulates (with-bridge n b s) w → (fs : List Event) × Simulates (with-bridge n b (with-tables s c d)) (follow fs w)
-  forgetting w lt f g i = (
-    forgets,
-    subst (λ u. Simulates (with-bridge n b (with-tables s c d)) u) (sym (forgets-world w)) (whole n b (with-tables s c d) _ (record {
-      here = record {
-        holds-so = v .here .holds-so;
-        held-so = v .here .held-so;
-        learned-so = λ t q. rw (eq-eqb b b refl, gone-test (s .newest) t q, gone-test (s .older) t q) (forgotten (isTree t (s .newest .tree)) (isTree t (s .older .tree)) (isSome (find q (s .newest .table .entries))) (isSome (find q (s .older .table .entries)))
-            (lookIn (s .newest) q) (lookIn (s .older) q) (placeIn (with-tables s c d) t q) b (n .plug q) (w .learned b t q) (placed-fades (isTree t (s .newest .tree)) (isTree t (s .older .tree)) _ _ _ _ (f q) (g q))
-            (none-found q (s .newest .table .entries)) (none-found q (s .older .table .entries)) (v .here .learned-so t q));
-        links-so = v .here .links-so;
-      };
-      others = λ e l k. record {
-        holds-so = v .others e l k .holds-so;
-        held-so = v .others e l k .held-so;
-        learned-so = λ t q. rw (ne-eqb e b k) (v .others e l k .learned-so t q);
-        links-so = v .others e l k .links-so;
-      };
-      home-so = λ q. homes-stay n b s (with-tables s c d) (λ p u. refl) q ∙ v .home-so q;
-      trees-so = v .trees-so;
-      flying-so = v .flying-so;
-      got-so = v .got-so;
-      next-so = v .next-so;
-    })),
-  )
+  forgetting w lt f g i = (forgets, subst (λ u. Simulates (with-bridge n b (with-tables s c d)) u) (sym (forgets-world w)) (whole n b (with-tables s c d) _ (record {
+    here = record {
+      holds-so = v .here .holds-so;
+      held-so = v .here .held-so;
+      learned-so = λ t q. rw (eq-eqb b b refl) (gone-told s (placeIn (with-tables s c d)) b (n .plug q) (w .learned b t q) t q (tables-fade s c d f g t q) (v .here .learned-so t q));
+      links-so = v .here .links-so;
+    };
+    others = λ e l k. record {
+      holds-so = v .others e l k .holds-so;
+      held-so = v .others e l k .held-so;
+      learned-so = λ t q. rw (ne-eqb e b k) (v .others e l k .learned-so t q);
+      links-so = v .others e l k .links-so;
+    };
+    home-so = λ q. homes-stay n b s (with-tables s c d) (λ p u. refl) q ∙ v .home-so q;
+    trees-so = v .trees-so;
+    flying-so = v .flying-so;
+    got-so = v .got-so;
+    next-so = v .next-so;
+  })))
     where
       v : View n b s w
       v = view n b s w lt i

@@ -13,3 +13,4 @@ mod Arriving
 mod Runs
 mod Safe
 mod AsContracts
+mod GivenCode

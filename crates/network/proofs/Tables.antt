@@ -76,6 +76,17 @@ learned-fades e keep es q = elim (learned-finds e keep q es) [ inl h ↦ inl (ap
 pub learned-keeps : (e : Entry) (keep : ℕ) (es : List Entry) → look (learned e keep es) keep ≡ cond (eqb keep (e .station)) (placeAt (e .location)) (look es keep)
 learned-keeps e keep es = elim (learned-finds e keep keep es) [ inl h ↦ ap found h ∙ look-put e es keep | inr h ↦ absurd (h .1 refl) ]
 
+pub learned-here : (e : Entry) (keep : ℕ) (es : List Entry) → look (learned e keep es) (e .station) ≡ placeAt (e .location)
+unfolding learned
+learned-here e keep es = ap found (find-put e (cond (isSome (find (e .station) es)) es (roomFor keep es)))
+
+-- one station is forgotten
+pub look-without : (q : ℕ) (es : List Entry) (r : ℕ) → look (without q es) r ≡ cond (eqb r q) Nowhere (look es r)
+look-without q es r = elim (ℕ-discrete r q) [
+  | yes h ↦ rw (eq-eqb r q h) (subst (λ s. look (without q es) s ≡ Nowhere) (sym h) (ap found (find-without q es)))
+  | no k ↦ rw (ne-eqb r q k) (ap found (find-without-other r q es k))
+]
+
 -- time has passed
 pub remembered-fades : (now : ℕ) (es : List Entry) → ascending es ≡ true → (q : ℕ) → Fades (look es q) (look (remembered now es) q)
 unfolding remembered
