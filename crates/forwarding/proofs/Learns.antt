@@ -12,7 +12,6 @@ use Rattle.forwarding.specs.State.{Slot, heardIn}
 pub learnt-heard : (tree : Found) (c : Contents) (f t : Station) (at : Location) (tick : ℕ) →
     _≡_ {A = Slot} (record { tree = tree; table = learnt f at tick t c })
     (cond (groupAddress (f .address)) (record { tree = tree; table = c }) (heardIn at (numberOf f) (numberOf t) tick (record { tree = tree; table = c })))
-unfolding learnt
 learnt-heard tree c f t at tick = go (groupAddress (f .address))
   where
     go : (b : Bool) → _≡_ {A = Slot} (record { tree = tree; table = cond b c (record { entries = learned (record { station = numberOf f; location = at; tick = tick; order = c .heard }) (numberOf t) (c .entries); heard = next (c .heard) }) })

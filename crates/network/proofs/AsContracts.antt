@@ -11,7 +11,7 @@ use Rattle.std.proofs.shelf.Ways.{tells}
 use Rattle.std.proofs.shelf.Tests.{eq-eqb, lt-ltb}
 use Rattle.std.proofs.shelf.Lists.{getD-past}
 use Rattle.std.specs.declared.result.Result.{Result}
-use Rattle.fdb.specs.Address.{groupAddress, stationNumber}
+use Rattle.fdb.specs.Address.{groupAddress, addressNumber, stationNumber}
 use Rattle.forwarding.specs.declared.fault.Fault.{Fault}
 use Rattle.ports.specs.declared.port.Port.{Port}
 use Rattle.ports.specs.declared.port.Port.the-variants.{Unused, Access, Trunk}
@@ -59,7 +59,7 @@ comes-as-contract s s′ by tree q d tick from to r g f e c =
     (neighbour-way s tree from g) (c .after-it, c .answer)))
 
 stations-have-numbers : Stations-have-numbers
-unfolding stationNumber
+unfolding addressNumber
 stations-have-numbers a v h l =
     let h0 = h 0 (omega arith) in let h1 = h 1 (omega arith) in let h2 = h 2 (omega arith) in let h3 = h 3 (omega arith) in let h4 = h 4 (omega arith) in let h5 = h 5 (omega arith) in
     (omega arith, omega arith)

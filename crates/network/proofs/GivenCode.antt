@@ -54,7 +54,7 @@ use Rattle.bridges.specs.Net.{
   Falls,
 }
 use Rattle.bridges.specs.Code.{View, Stands, steps, onlyForgets, isComes, isTakesOf, there, Code}
-use Rattle.bridges.proofs.Changes.{cond-by}
+use Rattle.std.proofs.shelf.Tests.{cond-both}
 use Rattle.fdb.specs.Entries.{find, without}
 use Rattle.fdb.specs.Contents.{Contents, empty}
 use Rattle.ports.specs.Places.{Place, Nowhere, AtPort, Toward, Came, ByPort, ByBridge, sender}
@@ -221,7 +221,7 @@ abbrev heard : Copy → State → State
 heard x s = cond (isTree (x .frame .tree) (s .newest .tree)) (after Newest (locate (came (x .trail))) (x .frame .from) (x .frame .to) 0 s) (after Older (locate (came (x .trail))) (x .frame .from) (x .frame .to) 0 s)
 
 heard-ordered : (x : Copy) (s : State) → (none (s .newest .tree) ≡ true → none (s .older .tree) ≡ true) → none (heard x s .newest .tree) ≡ true → none (heard x s .older .tree) ≡ true
-heard-ordered x s o = cond-by (isTree (x .frame .tree) (s .newest .tree)) (λ (m : State). none (m .newest .tree) ≡ true → none (m .older .tree) ≡ true) _ _ (λ _. o) (λ _. o)
+heard-ordered x s o = cond-both (isTree (x .frame .tree) (s .newest .tree)) _ _ (λ (m : State). none (m .newest .tree) ≡ true → none (m .older .tree) ≡ true) (λ _. o) (λ _. o)
 
 comes : Copy → Tree → Local → Local
 comes x t l = cond (isIn (x .frame .tree) (numbers (heldBy (l .memory)))) (remember l (heard x (l .memory)) (heard-ordered x (l .memory) (l .ordered))) l
@@ -271,7 +271,7 @@ module _ (x : Copy) (l : Local) (w : World) (i : Stands Local (view (x .at)) (x 
   or-other a b h k = grind arith
 
   comes-held : (copies : List Copy) (got : List Got) → isIn (x .frame .tree) (w .holds (x .at)) ≡ true → Handled (heard x (l .memory)) (learnt copies got)
-  comes-held copies got e = cond-by (isTree (x .frame .tree) (l .memory .newest .tree)) (λ s. Handled s (learnt copies got)) _ _ (comes-newest copies got)
+  comes-held copies got e = cond-both (isTree (x .frame .tree) (l .memory .newest .tree)) _ _ (λ s. Handled s (learnt copies got)) (comes-newest copies got)
       (λ d. comes-older copies got d (or-other (isTree (x .frame .tree) (l .memory .newest .tree)) (isTree (x .frame .tree) (l .memory .older .tree)) (sym holds-test ∙ e) d))
 
 comes-at : (x : Copy) (t : Tree) (l : Local) (w : World) → Stands Local (view (x .at)) (x .at) l w →
@@ -288,8 +288,7 @@ comes-at x t l w i = subst (λ hs. (fs : List Ev) × T (onlyForgets (x .at) fs) 
 keeps-at : (x : Copy) (t : Tree) (l : Local) (w : World) → Stands Local (view (x .at)) (x .at) l w → isIn (x .frame .tree) (w .holds (x .at)) ≡ true →
     view (x .at) .learned (comes x t l) (x .frame .tree) (x .frame .from) ≡ cameBy (x .trail)
 unfolding comes
-keeps-at x t l w i e = rw (ap (isIn (x .frame .tree)) (i .holds-so) ∙ e) (ap (whereIs (x .at) (plug (x .at))) (cond-by (isTree (x .frame .tree) (l .memory .newest .tree))
-    (λ (s : State). placeIn s (x .frame .tree) (x .frame .from) ≡ sender (came (x .trail))) _ _
+keeps-at x t l w i e = rw (ap (isIn (x .frame .tree)) (i .holds-so) ∙ e) (ap (whereIs (x .at) (plug (x .at))) (cond-both (isTree (x .frame .tree) (l .memory .newest .tree)) _ _ (λ (s : State). placeIn s (x .frame .tree) (x .frame .from) ≡ sender (came (x .trail)))
     (λ h. rw h (learned-here (entry (x .frame .from) (x .frame .to) 0 (came (x .trail)) (l .memory .newest)) (x .frame .to) (l .memory .newest .table .entries) ∙ place-came (came (x .trail))))
     (λ d. rw (d, or-other x l w i (isTree (x .frame .tree) (l .memory .newest .tree)) (isTree (x .frame .tree) (l .memory .older .tree)) (sym (holds-test x l w i) ∙ e) d)
     (learned-here (entry (x .frame .from) (x .frame .to) 0 (came (x .trail)) (l .memory .older)) (x .frame .to) (l .memory .older .table .entries) ∙ place-came (came (x .trail))))) ∙ came-so (x .at) (x .trail))
@@ -395,7 +394,7 @@ module _ (b : ℕ) (l : Local) (w : World) (i : Stands Local (view b) b l w) whe
 
   takes-stays : (c n : ℕ) → eqb c b ≡ false → (f : Found) → Stands Local (view b) b l (takeIf rules c n f w)
   takes-stays c n e NoTree = i
-  takes-stays c n e (This t) = cond-by (not (looks 128 t)) (λ u. Stands Local (view b) b l u) w _ (λ _. i) (λ _. stays _ (rw (flip b c ∙ e)) refl refl refl)
+  takes-stays c n e (This t) = cond-both (not (looks 128 t)) w _ (λ u. Stands Local (view b) b l u) (λ _. i) (λ _. stays _ (rw (flip b c ∙ e)) refl refl refl)
     where
       flip : (a b : ℕ) → eqb a b ≡ eqb b a
       flip a b = grind (arith, tells)
@@ -449,7 +448,7 @@ module _ (b : ℕ) (l : Local) (w : World) (i : Stands Local (view b) b l w) whe
 
 does-so : (b : ℕ) (l : Local) (w : World) (e : Ev) → Stands Local (view b) b l w → isComes e ≡ false → isTakesOf b e ≡ false → there rules e ≡ true → Stands Local (view b) b (does b e l) (step rules e w)
 unfolding does
-does-so b l w (Sends s d) i c t h = cond-by (ltb s (2 ^ 60) && ltb d (2 ^ 60)) (λ u. Stands Local (view b) b l u) (sendBy rules s d (w .holds (w .home s)) w) w (λ _. sends-stays b l w i s d (w .holds (w .home s))) (λ _. i)
+does-so b l w (Sends s d) i c t h = cond-both (ltb s (2 ^ 60) && ltb d (2 ^ 60)) (sendBy rules s d (w .holds (w .home s)) w) w (λ u. Stands Local (view b) b l u) (λ _. sends-stays b l w i s d (w .holds (w .home s))) (λ _. i)
 does-so b l w (Comes j) i c t h = absurd (grind arith)
 does-so b l w (Lost j) i c t h = stays b l w i _ refl refl refl refl
 does-so b l w (Link a d v) i c t h = record {
