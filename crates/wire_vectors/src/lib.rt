@@ -1,0 +1,3 @@
+// Examples of messages in bytes, made by another program.
+#[cfg(test)]
+mod tests;
