@@ -21,6 +21,8 @@ use Rattle.fdb.specs.Entries.{above, ascending, find, put, without, oldest, lo
 use Rattle.fdb.specs.Contents.{Contents, most, numberOf, evicted, roomFor, learned, learnt, aged, entryOf, next}
 use Rattle.fdb.specs.Learning.{Sound, Evicts, Learns, Learning}
 use Rattle.fdb.specs.Ageing.{Forgets, Ageing}
+use Rattle.fdb.specs.declared.table.Table.{Table}
+use Rattle.fdb.specs.Held.{contents}
 use Rattle.fdb.proofs.Ordered.{ascending-put, room-ascending, learned-ascending, ascending-remembered, oldest-some, room-new, find-kept}
 use Rattle.fdb.proofs.Found.{find-put, find-put-other, find-without, find-without-other, find-station, length-put-new, length-put-known, length-kept, length-without, oldest-other, oldest-held, oldest-first, find-kept-yes, find-kept-no}
 
@@ -109,3 +111,7 @@ ages tick c ok = record {
   unknown = λ k h. find-kept k (fresh tick) (c .entries) h;
   sound = record { sorted = ascending-remembered tick (c .entries) (ok .sorted); within = let h = length-kept (fresh tick) (c .entries) in omega (arith, ok .within) };
 }
+
+-- what a table in memory holds is sound, for those who use the theorems
+pub sound-table : (t : Table) → Sound (contents t)
+sound-table t = record { sorted = t .sorted; within = omega (arith, t .room, t .entries .ok .0) }

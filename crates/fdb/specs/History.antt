@@ -87,7 +87,7 @@ pub record Remembers (es : List Event) (k : ℕ) : Type 0 where
 abbrev pub History : Type 0
 History = (es : List Event) → rising es ≡ true → (k : ℕ) → Remembers es k
 
--- who goes for want of room was heard before every other that is held, but for the one that is kept; of equals in a tick the one heard first
+-- who goes for want of room was heard before every other that is held, but for the one that is kept: of equals in a tick the one heard first. So it is while the count of what was heard fits its 64 bits
 abbrev pub Longest : Type 0
 Longest =
     (es : List Event) → rising es ≡ true → length es < 2 ^ 64 - 1 → (s keep : Station) (v : Entry) → goes s keep (after es) ≡ Some v →

@@ -34,6 +34,7 @@ fn insert(entries: &mut Vec<Entry>, entry: Entry)
     }
 }
 
+// Whether there is no room for one more.
 fn is_full(entries: &[Entry]) -> bool
     ensures { λ r. ⌜ r ≡ leb most (length (now (entries .entry))) ⌝ }
 {
