@@ -148,17 +148,23 @@ module _ (n : Network) (w : World) (j tick : ℕ) (x : Copy) (i : Simulates n w)
   taken : (way : Way) (t : Tree) → treeOf (x .frame .tree) (w .trees) ≡ This t → isIn (x .frame .tree) (w .holds (x .at)) ≡ true →
       (fs : List Event) × Simulates (handled n₀ way (cameFrom (x .trail)) x tick (n₀ .flying) (n₀ .next)) (follow fs (forward false rules x t w₀)) → Comes-to way
   unfolding follow
-  taken way t known held s = (s .0 ++ (Arrive j ∷ []), subst (λ u. Simulates (handled n way (cameFrom (x .trail)) x tick (without j (n .flying)) (n .next)) u)
-      (sym (follow-append (s .0) (Arrive j ∷ []) w ∙ ap (follow (s .0)) (arrive-so ∙ receive-held x t w₀ known held)))
-      (subst (λ m. Simulates m (follow (s .0) (forward false rules x t w₀))) (handled-same n way (cameFrom (x .trail)) x tick (without j (n .flying)) (n .next)) (s .1)))
+  taken way t known held s = (
+    s .0 ++ (Arrive j ∷ []),
+    subst (λ u. Simulates (handled n way (cameFrom (x .trail)) x tick (without j (n .flying)) (n .next)) u)
+        (sym (follow-append (s .0) (Arrive j ∷ []) w ∙ ap (follow (s .0)) (arrive-so ∙ receive-held x t w₀ known held)))
+        (subst (λ m. Simulates m (follow (s .0) (forward false rules x t w₀))) (handled-same n way (cameFrom (x .trail)) x tick (without j (n .flying)) (n .next)) (s .1)),
+  )
 
   -- it is refused
   dropped : (f : Fault) → isIn (x .frame .tree) (w .holds (x .at)) ≡ false → Comes-to (Refuse f)
   unfolding follow
-  dropped f h = (Arrive j ∷ [], subst (λ u. Simulates (handled n (Refuse f) (cameFrom (x .trail)) x tick (without j (n .flying)) (n .next)) u)
-      (sym (arrive-so ∙ receive-refused x (treeOf (x .frame .tree) (w .trees)) w₀ h))
-      (subst (λ bs. Simulates (handled n (Refuse f) (cameFrom bs) x tick (without j (n .flying)) (n .next)) w₀) (sym (fl .is))
-      (subst (λ m. Simulates m w₀) (sym (refused n f (fl .last) x tick (without j (n .flying)) (n .next))) i₀)))
+  dropped f h = (
+    Arrive j ∷ [],
+    subst (λ u. Simulates (handled n (Refuse f) (cameFrom (x .trail)) x tick (without j (n .flying)) (n .next)) u)
+        (sym (arrive-so ∙ receive-refused x (treeOf (x .frame .tree) (w .trees)) w₀ h))
+        (subst (λ bs. Simulates (handled n (Refuse f) (cameFrom bs) x tick (without j (n .flying)) (n .next)) w₀) (sym (fl .is))
+        (subst (λ m. Simulates m w₀) (sym (refused n f (fl .last) x tick (without j (n .flying)) (n .next))) i₀)),
+  )
 
   pub coming : Comes-to (trackOf (n .bridge (x .at)) (x .frame .tree))
   coming = cond-by (none (n .bridge (x .at) .newest .tree)) Comes-to _ _ (λ h. dropped fault.NoTree (held-so ∙ nothing (n .bridge (x .at) .newest .tree) (n .bridge (x .at) .older .tree) h (k .kept (x .at) .older-last h)))
@@ -251,9 +257,12 @@ module _ (n : Network) (w : World) (q to tick : ℕ) (i : Simulates n w) (k : St
 
   pub sending : (fs : List Event) × Simulates (handled n Newest (ByPort (n .plug q .port)) x tick (n .flying) (suc (n .next))) (follow fs w)
   unfolding follow
-  sending = (s .0 ++ (Arrive 0 ∷ Send q to ∷ []), subst (λ u. Simulates (handled n Newest (ByPort (n .plug q .port)) x tick (n .flying) (suc (n .next))) u)
-      (sym (follow-append (s .0) (Arrive 0 ∷ Send q to ∷ []) w ∙ ap (follow (s .0)) (ap (happen false rules (Arrive 0)) sent ∙ arrived)))
-      (subst (λ m. Simulates m (follow (s .0) (forward false rules x t w₁))) (handled-same n Newest (ByPort (n .plug q .port)) x tick (n .flying) (suc (n .next))) (s .1)))
+  sending = (
+    s .0 ++ (Arrive 0 ∷ Send q to ∷ []),
+    subst (λ u. Simulates (handled n Newest (ByPort (n .plug q .port)) x tick (n .flying) (suc (n .next))) u)
+        (sym (follow-append (s .0) (Arrive 0 ∷ Send q to ∷ []) w ∙ ap (follow (s .0)) (ap (happen false rules (Arrive 0)) sent ∙ arrived)))
+        (subst (λ m. Simulates m (follow (s .0) (forward false rules x t w₁))) (handled-same n Newest (ByPort (n .plug q .port)) x tick (n .flying) (suc (n .next))) (s .1)),
+  )
     where
       s : (fs : List Event) × Simulates (handled n₁ Newest (ByPort (n .plug q .port)) x tick (n₁ .flying) (n₁ .next)) (follow fs (forward false rules x t w₁))
       s = along-newest n₁ w₁ x t (ByPort (n .plug q .port)) tick inside i₁ (k .kept b .numbered) along-it (λ c. refl) (rw (eq-eqb b b refl, eq-eqb (n .plug q .port) (n .plug q .port) refl)) its

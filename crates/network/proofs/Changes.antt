@@ -114,27 +114,27 @@ pub adopting : (n : Network) (b : ℕ) (s : State) (t : Tree) (w : World) → b 
 unfolding follow find
 adopting n b s t w lt o d known good i = subst (λ f. Simulates m (adoptIf false rules b (t .number) f w)) (sym there)
     (rw (good, newer) (whole n b s′ _ (record {
-  here = record {
-    holds-so = rw (eq-eqb b b refl, ← v .here .holds-so) (adopts-holds t (s .newest .tree) (s .older .tree) o);
-    held-so = λ u k. elim (List·Memᴰ·append-cases (t ∷ []) k) [
-      | inl h ↦ elim (List·Memᴰ·cases-cons h) [ inl e ↦ subst (λ u. treeOf (u .number) (w .trees) ≡ This u) (sym e) there | inr h′ ↦ absurd (List·Memᴰ·not-nil h′) ]
-      | inr h ↦ v .here .held-so u (Memᴰ·append-left (treeIn (s .older .tree)) h)
-    ];
-    learned-so = λ u q. ap (whereIs b (n .plug q)) (adopts-place (eqb (t .number) u) (isTree u (s .newest .tree)) (isTree u (s .older .tree)) (lookIn (s .newest) q) (same-number t u (s .newest .tree) d)) ∙ v .here .learned-so u q;
-    links-so = v .here .links-so;
-  };
-  others = λ c l k. record {
-    holds-so = rw (ne-eqb c b k) (v .others c l k .holds-so);
-    held-so = v .others c l k .held-so;
-    learned-so = v .others c l k .learned-so;
-    links-so = v .others c l k .links-so;
-  };
-  home-so = λ q. homes-stay n b s₀ s′ (λ p u. refl) q ∙ v .home-so q;
-  trees-so = v .trees-so;
-  flying-so = v .flying-so;
-  got-so = v .got-so;
-  next-so = v .next-so;
-})))
+      here = record {
+        holds-so = rw (eq-eqb b b refl, ← v .here .holds-so) (adopts-holds t (s .newest .tree) (s .older .tree) o);
+        held-so = λ u k. elim (List·Memᴰ·append-cases (t ∷ []) k) [
+          | inl h ↦ elim (List·Memᴰ·cases-cons h) [ inl e ↦ subst (λ u. treeOf (u .number) (w .trees) ≡ This u) (sym e) there | inr h′ ↦ absurd (List·Memᴰ·not-nil h′) ]
+          | inr h ↦ v .here .held-so u (Memᴰ·append-left (treeIn (s .older .tree)) h)
+        ];
+        learned-so = λ u q. ap (whereIs b (n .plug q)) (adopts-place (eqb (t .number) u) (isTree u (s .newest .tree)) (isTree u (s .older .tree)) (lookIn (s .newest) q) (same-number t u (s .newest .tree) d)) ∙ v .here .learned-so u q;
+        links-so = v .here .links-so;
+      };
+      others = λ c l k. record {
+        holds-so = rw (ne-eqb c b k) (v .others c l k .holds-so);
+        held-so = v .others c l k .held-so;
+        learned-so = v .others c l k .learned-so;
+        links-so = v .others c l k .links-so;
+      };
+      home-so = λ q. homes-stay n b s₀ s′ (λ p u. refl) q ∙ v .home-so q;
+      trees-so = v .trees-so;
+      flying-so = v .flying-so;
+      got-so = v .got-so;
+      next-so = v .next-so;
+    })))
   where
     s₀ : State
     s₀ = with-tables s (s .newest .table) empty
@@ -219,5 +219,8 @@ believing n b s ps w lt h i = subst (λ u. Simulates (with-bridge n b (with-port
     beyond c ge = ap not (none-beyond ps c 16 ge ∙ sym (none-beyond (s .ports) c 16 ge)) ∙ v .here .links-so c
 
 pub linking : (n : Network) (b p : ℕ) (l : Option Link) (s : State) (w : World) → b < 128 → Simulates (with-bridge n b s) w → (fs : List Event) × Simulates (with-bridge n b (relinked p l s)) (follow fs w)
-linking n b p l s w lt i = (_, subst (λ u. Simulates (with-bridge n b u) (follow (believesAll b (λ c. not (noneBelow (portsOf (cond (mayLink p s) (set (s .ports) p (linkPort l)) (s .ports))) c 16)) 128) w))
-    (sym (relinked-ports (mayLink p s) s (set (s .ports) p (linkPort l)))) (believing n b s (cond (mayLink p s) (set (s .ports) p (linkPort l)) (s .ports)) w lt (relink-serves s p l) i))
+linking n b p l s w lt i = (
+  _,
+  subst (λ u. Simulates (with-bridge n b u) (follow (believesAll b (λ c. not (noneBelow (portsOf (cond (mayLink p s) (set (s .ports) p (linkPort l)) (s .ports))) c 16)) 128) w))
+      (sym (relinked-ports (mayLink p s) s (set (s .ports) p (linkPort l)))) (believing n b s (cond (mayLink p s) (set (s .ports) p (linkPort l)) (s .ports)) w lt (relink-serves s p l) i),
+)

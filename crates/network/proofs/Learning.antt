@@ -118,25 +118,28 @@ module _ (n : Network) (b : ℕ) (s : State) (c d : Contents) where
   -- a bridge's tables fade: it forgets
   pub forgetting : (w : World) → b < 128 → ((q : ℕ) → Fades (lookIn (s .newest) q) (look (c .entries) q)) → ((q : ℕ) → Fades (lookIn (s .older) q) (look (d .entries) q)) →
       Simulates (with-bridge n b s) w → (fs : List Event) × Simulates (with-bridge n b (with-tables s c d)) (follow fs w)
-  forgetting w lt f g i = (forgets, subst (λ u. Simulates (with-bridge n b (with-tables s c d)) u) (sym (forgets-world w)) (whole n b (with-tables s c d) _ (record {
-    here = record {
-      holds-so = v .here .holds-so;
-      held-so = v .here .held-so;
-      learned-so = λ t q. rw (eq-eqb b b refl) (gone-told s (placeIn (with-tables s c d)) b (n .plug q) (w .learned b t q) t q (tables-fade s c d f g t q) (v .here .learned-so t q));
-      links-so = v .here .links-so;
-    };
-    others = λ e l k. record {
-      holds-so = v .others e l k .holds-so;
-      held-so = v .others e l k .held-so;
-      learned-so = λ t q. rw (ne-eqb e b k) (v .others e l k .learned-so t q);
-      links-so = v .others e l k .links-so;
-    };
-    home-so = λ q. homes-stay n b s (with-tables s c d) (λ p u. refl) q ∙ v .home-so q;
-    trees-so = v .trees-so;
-    flying-so = v .flying-so;
-    got-so = v .got-so;
-    next-so = v .next-so;
-  })))
+  forgetting w lt f g i = (
+    forgets,
+    subst (λ u. Simulates (with-bridge n b (with-tables s c d)) u) (sym (forgets-world w)) (whole n b (with-tables s c d) _ (record {
+      here = record {
+        holds-so = v .here .holds-so;
+        held-so = v .here .held-so;
+        learned-so = λ t q. rw (eq-eqb b b refl) (gone-told s (placeIn (with-tables s c d)) b (n .plug q) (w .learned b t q) t q (tables-fade s c d f g t q) (v .here .learned-so t q));
+        links-so = v .here .links-so;
+      };
+      others = λ e l k. record {
+        holds-so = v .others e l k .holds-so;
+        held-so = v .others e l k .held-so;
+        learned-so = λ t q. rw (ne-eqb e b k) (v .others e l k .learned-so t q);
+        links-so = v .others e l k .links-so;
+      };
+      home-so = λ q. homes-stay n b s (with-tables s c d) (λ p u. refl) q ∙ v .home-so q;
+      trees-so = v .trees-so;
+      flying-so = v .flying-so;
+      got-so = v .got-so;
+      next-so = v .next-so;
+    })),
+  )
     where
       v : View n b s w
       v = view n b s w lt i

@@ -182,8 +182,11 @@ module _ (n : Network) (q : ℕ) (pl : Plug) where
   -- a station is plugged in: it moves, and all bridges are turned
   pub plugging : (w : World) → Simulates n w → (fs : List Event) × Simulates plugged (follow fs w)
   unfolding follow
-  plugging w i = (turnsUpTo 128 ++ (Move q (homeOf plugged q) ∷ []), subst (λ u. Simulates plugged u) (sym (follow-append (turnsUpTo 128) (Move q (homeOf plugged q) ∷ []) w))
-      (let v = turning-up 128 moved start in simulates plugged (follow (turnsUpTo 128) moved) (λ b lt. v .done b lt lt) (v .home-so) (v .trees-so) (v .flying-so) (v .got-so) (v .next-so)))
+  plugging w i = (
+    turnsUpTo 128 ++ (Move q (homeOf plugged q) ∷ []),
+    subst (λ u. Simulates plugged u) (sym (follow-append (turnsUpTo 128) (Move q (homeOf plugged q) ∷ []) w))
+        (let v = turning-up 128 moved start in simulates plugged (follow (turnsUpTo 128) moved) (λ b lt. v .done b lt lt) (v .home-so) (v .trees-so) (v .flying-so) (v .got-so) (v .next-so)),
+  )
     where
       moved : World
       moved = follow (Move q (homeOf plugged q) ∷ []) w

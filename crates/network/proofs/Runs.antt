@@ -57,17 +57,20 @@ follows {n} w k i (crashes b lt) = (Crash b ∷ [], crashing n b (n .bridge b) w
 follows {n} w k i (plugs q pl) = plugging n q pl w i
 follows {n} w k i (sends q to tick lt here lq lto same has) = let t = has-tree (n .bridge (n .plug q .bridge) .newest .tree) has in sending n w q to tick i k lt here lq lto (t .0) (t .1)
 follows {n} w k i (comes j tick x e) = coming n w j tick x i k e
-follows {n} w k i (loses j) = (Lose j ∷ [], record {
-  holds-so = i .holds-so;
-  held-so = i .held-so;
-  learned-so = i .learned-so;
-  links-so = i .links-so;
-  home-so = i .home-so;
-  trees-so = i .trees-so;
-  flying-so = ap (without j) (i .flying-so);
-  got-so = i .got-so;
-  next-so = i .next-so;
-})
+follows {n} w k i (loses j) = (
+  Lose j ∷ [],
+  record {
+    holds-so = i .holds-so;
+    held-so = i .held-so;
+    learned-so = i .learned-so;
+    links-so = i .links-so;
+    home-so = i .home-so;
+    trees-so = i .trees-so;
+    flying-so = ap (without j) (i .flying-so);
+    got-so = i .got-so;
+    next-so = i .next-so;
+  },
+)
 
 -- at first each bridge comes to believe what its ports say
 abbrev believes-first : (ℕ → List Port) → ℕ → ℕ → Bool
@@ -90,8 +93,11 @@ begins-so ports = record {
 
 stands-for : (ports : ℕ → List Port) {n : Network} → Reached ports n → (es : List Event) × Simulates n (run false rules es)
 unfolding run
-stands-for ports first = (believesUpTo (believes-first ports) 128 128 ++ [], subst (λ u. Simulates (begins ports) u) (sym (run-follow (believesUpTo (believes-first ports) 128 128) [] ∙ believes-up-to (believes-first ports) 128 128 (begin false rules)))
-    (begins-so ports))
+stands-for ports first = (
+  believesUpTo (believes-first ports) 128 128 ++ [],
+  subst (λ u. Simulates (begins ports) u) (sym (run-follow (believesUpTo (believes-first ports) 128 128) [] ∙ believes-up-to (believes-first ports) 128 128 (begin false rules)))
+      (begins-so ports),
+)
 stands-for ports (then {n} {m} r s) = let e = stands-for ports r in let f = follows (run false rules (e .0)) (steady ports r) (e .1) s in (f .0 ++ e .0, subst (λ u. Simulates m u) (sym (run-follow (f .0) (e .0))) (f .1))
 
 pub runs-as-net : Runs-as-net
