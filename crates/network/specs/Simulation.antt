@@ -4,7 +4,6 @@ use mathlib.Core.Bool.{Bool, true, false, cond, _&&_, _||_, not}
 use mathlib.Core.List.{List, [], _∷_, _++_, List·Memᴰ}
 use Prim.Native.Nat.{ℕ, zero, suc, _<_, _≤_}
 use lib.Dec.{eqb, ltb}
-use lib.ListN.{length}
 use Rattle.trees.specs.Tree.{Tree, different}
 use Rattle.bridges.specs.Net.{Frame, Copy, Where, Unknown, Here, Behind, Got, Rules, World, Found, NoTree, This, treeOf}
 use Rattle.bridges.specs.Promise.{countGot}
@@ -14,7 +13,7 @@ use Rattle.ports.specs.declared.port.Port.{Port}
 use Rattle.ports.specs.Ports.{portsOf, noneBelow}
 use Rattle.ports.specs.Places.{Place, Nowhere, AtPort, Toward}
 use Rattle.forwarding.specs.State.{Slot, State, isTree, lookIn}
-use Rattle.network.specs.Network.{Network, Plug, rules, vlanOf, isHere, Reached}
+use Rattle.network.specs.Network.{Network, Plug, rules, vlanOf, isHere, Steps, Reached}
 
 -- the trees that a bridge holds, the newest first
 abbrev pub treeIn : Found → List Tree
@@ -56,7 +55,13 @@ pub record Simulates (n : Network) (w : World) : Type 0 where
 
 -- Whatever a net of bridges comes to, by whatever happens to it, is a world of the net of the promise; so all that is promised there holds of it.
 abbrev pub Runs-as-net : Type 0
-Runs-as-net = (ports : ℕ → List Port) → ((b : ℕ) → length (ports b) ≡ 16) → (n : Network) → Reached ports n → (es : List Event) × Simulates n (run false rules es) × Assured false rules es
+Runs-as-net = (ports : ℕ → List Port) (n : Network) → Reached ports n → (es : List Event) × Simulates n (run false rules es) × Assured false rules es
+
+-- And it goes on as that world does: whatever happens to the net next is some events more.
+abbrev pub Goes-on-as-net : Type 0
+Goes-on-as-net =
+    (ports : ℕ → List Port) (n m : Network) → Reached ports n → Steps n m →
+    (es : List Event) → Simulates n (run false rules es) → (fs : List Event) × Simulates m (run false rules (fs ++ es))
 
 -- In the net's own words, of all that bridges and stations can come to: no copy is where it was, no bridge hands a frame to a station twice, and nobody gets a frame of another VLAN.
 pub record Safe (n : Network) : Type 0 where
@@ -65,4 +70,4 @@ pub record Safe (n : Network) : Type 0 where
   pub own-vlan : (f : ℕ) (g h : Got) → List·Memᴰ g (n .got) → List·Memᴰ h (n .got) → g .frame ≡ f → h .frame ≡ f → vlanOf (g .station) ≡ vlanOf (h .station)
 
 abbrev pub Always-safe : Type 0
-Always-safe = (ports : ℕ → List Port) → ((b : ℕ) → length (ports b) ≡ 16) → (n : Network) → Reached ports n → Safe n
+Always-safe = (ports : ℕ → List Port) (n : Network) → Reached ports n → Safe n

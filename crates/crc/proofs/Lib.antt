@@ -1,0 +1,4 @@
+pub mod Linear
+pub mod Table
+pub mod Eight
+pub mod Windows

@@ -1,0 +1,3 @@
+pub mod StationFrames
+pub mod ForwardedFrames
+pub mod SettingsBytes

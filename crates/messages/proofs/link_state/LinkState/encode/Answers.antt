@@ -1,0 +1,7 @@
+use Rattle.std.specs.Of.Vec.{vec-items}
+use Rattle.std.specs.Results.{isOk}
+use Rattle.wire.proofs.Appended.{carried}
+use Rattle.messages.proofs.link_state.LinkState.encode.Needs as need
+
+pub returns : need.returns
+returns c = carried (vec-items (c .args .out .now)) (isOk (c .append-summed .result)) (c .head .ensures) (c .to-bytes .ensures .whole) (c .append-summed .ensures)

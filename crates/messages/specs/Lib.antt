@@ -1,0 +1,5 @@
+pub mod Hellos
+pub mod LinkStates
+pub mod Acks
+pub mod TreeBytes
+pub mod Messages

@@ -1,0 +1,15 @@
+mod Tests
+mod Tables
+mod Worlds
+mod Onward
+mod Handing
+mod Standing
+mod Learning
+mod Changes
+mod Plugging
+mod Frames
+mod Steady
+mod Arriving
+mod Runs
+mod Safe
+mod AsContracts

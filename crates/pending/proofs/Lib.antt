@@ -1,0 +1,2 @@
+mod Lowest
+pub mod Words

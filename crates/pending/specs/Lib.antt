@@ -1,0 +1,4 @@
+pub mod Acks
+pub mod Tables
+pub mod Waits
+pub mod Words

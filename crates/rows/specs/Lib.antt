@@ -1,0 +1,4 @@
+pub mod Budget
+pub mod Events
+pub mod Row
+pub mod Slot

@@ -1,0 +1,10 @@
+mod Numbers
+mod Whole
+mod Hellos
+mod LinkStates
+mod TreeNumbers
+mod Acks
+mod Frames
+mod Trees
+mod SettingsBack
+mod Damaged

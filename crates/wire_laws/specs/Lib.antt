@@ -1,0 +1,2 @@
+pub mod RoundTrips
+pub mod Damage
