@@ -1,0 +1,3 @@
+pub mod Cables
+pub mod Losses
+pub mod Slots
