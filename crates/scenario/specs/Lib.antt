@@ -1,3 +1,10 @@
+pub mod Boxes
 pub mod Cables
+pub mod Forest
+pub mod Links
 pub mod Losses
+pub mod Plans
+pub mod Player
+pub mod Resting
 pub mod Slots
+pub mod Travel
