@@ -4,7 +4,7 @@ use mathlib.Core.Bool.{Bool, true, false, cond, _&&_}
 use mathlib.Core.List.{List}
 use Prim.Native.Nat.{ℕ, zero, suc, _<_}
 use lib.Dec.{eqb, ltb}
-use lib.ListN.{getD}
+use lib.ListN.{length, getD}
 use Rattle.std.specs.declared.option.Option.{Option}
 use Rattle.std.specs.declared.option.Option.the-variants.{Some, None}
 use Rattle.wiring.specs.declared.boxes.Node.{Node}
@@ -23,7 +23,7 @@ slotAt bs n = getD bs n None
 
 -- the number of its newest tree
 abbrev pub newestAt : List (Option Bridge) → ℕ → Option ℕ
-newestAt bs n = cond (ltb n 6) (newestIn (stateIn (slotAt bs n))) None
+newestAt bs n = cond (ltb n (length bs)) (newestIn (stateIn (slotAt bs n))) None
 
 -- a bridge that starts in a box that is on has its number, its access ports, and nothing else
 abbrev pub Began : List Node → ℕ → Option Bridge → Type 0

@@ -6,7 +6,7 @@ use Prim.Native.Nat.{ℕ}
 use lib.Dec.{ltb}
 use lib.ListN.{getD, replicate}
 use Rattle.std.specs.Iters.{folded}
-use Rattle.std.specs.Of.Vec.{vec-items}
+use Rattle.std.specs.Of.Vec.{vec-len, vec-items}
 use Rattle.std.specs.declared.option.Option.{Option}
 use Rattle.std.specs.declared.option.Option.the-variants.{Some, None}
 use Rattle.std.specs.declared.result.Result.{Result}
@@ -33,7 +33,7 @@ treesOf p = vec-items (p .forest .list)
 -- nothing is there yet
 abbrev pub Fresh : Player → Type 0
 Fresh p =
-    (p .bridges ≡ None ∷ None ∷ None ∷ None ∷ None ∷ None ∷ []) × (p .losses .left ≡ replicate 6 (replicate 16 0))
+    (vec-items (p .bridges) ≡ None ∷ None ∷ None ∷ None ∷ None ∷ None ∷ []) × (p .losses .left ≡ replicate 6 (replicate 16 0))
     × (p .clock ≡ 0) × (treesOf p ≡ [])
 
 -- all but the bridges is as it was
@@ -57,8 +57,8 @@ AdoptedOne n (Some t) bs cs =
 
 -- a box adopts the latest tree with a sequence number; where it is off, or there is none, nothing changes
 abbrev pub AdoptedAt : List Node → ℕ → ℕ → Player → Result (Unit {0}) Refusal → Player → Type 0
-AdoptedAt ns n q p (Ok u) p′ = (onAt ns n ≡ true) × AdoptedOne n (latestOf p q) (p .bridges) (p′ .bridges)
-AdoptedAt ns n q p (Err refusal.NoBridge) p′ = (onAt ns n ≡ false) × (p′ .bridges ≡ p .bridges)
+AdoptedAt ns n q p (Ok u) p′ = (onAt ns n ≡ true) × AdoptedOne n (latestOf p q) (vec-items (p .bridges)) (vec-items (p′ .bridges))
+AdoptedAt ns n q p (Err refusal.NoBridge) p′ = ((onAt ns n && ltb n (vec-len (p .bridges))) ≡ false) × (p′ .bridges ≡ p .bridges)
 AdoptedAt ns n q p (Err refusal.UnknownTree) p′ = (onAt ns n ≡ true) × (latestOf p q ≡ None) × (p′ .bridges ≡ p .bridges)
 AdoptedAt ns n q p (Err (refusal.NotATree e)) p′ = ⊥
 AdoptedAt ns n q p (Err refusal.NoRoom) p′ = ⊥

@@ -1,7 +1,9 @@
 // The bridges in the boxes.
 ghost use mathlib.Core.Path.{_≡_};
+ghost use mathlib.Core.List.{_∷_, []};
 ghost use Prim.Native.Nat.{ℕ, _<_};
-ghost use lib.ListN.{length, getD};
+ghost use lib.ListN.{getD};
+ghost use Rattle.std.specs.Of.Vec.{vec-len, vec-items};
 ghost use Rattle.std.specs.Options.{mapped};
 ghost use Rattle.std.specs.Vec.{made};
 ghost use Rattle.std.specs.declared.option.Option.the-variants.{None};
@@ -20,6 +22,20 @@ use std::alloc::AllocError;
 use std::alloc::Global;
 use trees::TreeId;
 use wiring::boxes::Wiring;
+
+/// Six boxes without bridges.
+pub(crate) fn empty(heap: Global) -> Result<Vec<Option<Bridge>>, AllocError>
+    ensures { λ r. ⌜ made r (λ v. vec-items v ≡ None ∷ None ∷ None ∷ None ∷ None ∷ None ∷ []) ⌝ }
+{
+    let mut bridges = Vec::with_capacity(heap, 6)?;
+    bridges.push_reserved(None);
+    bridges.push_reserved(None);
+    bridges.push_reserved(None);
+    bridges.push_reserved(None);
+    bridges.push_reserved(None);
+    bridges.push_reserved(None);
+    Ok(bridges)
+}
 
 /// A bridge that starts in a box with the settings of its ports; a box that is off has none.
 fn started(heap: Global, wiring: &Wiring, node: u8) -> Result<Option<Bridge>, AllocError>
@@ -52,31 +68,34 @@ fn prepare(
 
 /// Sees that each box that is on has a bridge, and tells each of its links.
 pub(crate) fn prepare_all(
-    bridges: &mut [Option<Bridge>; 6],
+    bridges: &mut Vec<Option<Bridge>>,
     heap: Global,
     wiring: &Wiring,
 ) -> Result<(), AllocError> {
     for node in 0..6u8 {
-        prepare(&mut bridges[node as usize], heap, wiring, node)?;
+        let i = node as usize;
+        if i < bridges.len() {
+            prepare(&mut bridges[i], heap, wiring, node)?;
+        }
     }
     Ok(())
 }
 
 /// Each bridge forgets what is old.
-pub(crate) fn age_all(bridges: &mut [Option<Bridge>; 6], tick: u64)
-    ensures { λ _. ⌜ ((n : ℕ) → n < 6 → n < length (now (bridges .entry)) → stateIn (getD (now (bridges .exit)) n None) ≡ become (agedState tick) (stateIn (getD (now (bridges .entry)) n None))) ⌝ }
+pub(crate) fn age_all(bridges: &mut Vec<Option<Bridge>>, tick: u64)
+    ensures { λ _. ⌜ ((n : ℕ) → n < vec-len (now (bridges .entry)) → stateIn (getD (vec-items (now (bridges .exit))) n None) ≡ become (agedState tick) (stateIn (getD (vec-items (now (bridges .entry))) n None))) ⌝ }
 {
-    for i in 0..6usize {
+    for i in 0..bridges.len() {
         slots::age(&mut bridges[i], tick);
     }
 }
 
 /// The number of the newest tree of the bridge in a box.
-pub(crate) fn newest_in(bridges: &[Option<Bridge>; 6], node: u8) -> Option<TreeId>
+pub(crate) fn newest_in(bridges: &[Option<Bridge>], node: u8) -> Option<TreeId>
     ensures { λ r. ⌜ mapped idNumber r ≡ newestAt (now (bridges .entry)) node ⌝ }
 {
     let i = node as usize;
-    if i < 6 {
+    if i < bridges.len() {
         slots::newest(&bridges[i])
     } else {
         None
@@ -84,7 +103,7 @@ pub(crate) fn newest_in(bridges: &[Option<Bridge>; 6], node: u8) -> Option<TreeI
 }
 
 /// Says whether a box is off, or its newest tree is the one with a number.
-fn holds(bridges: &[Option<Bridge>; 6], wiring: &Wiring, node: u8, id: TreeId) -> bool
+fn holds(bridges: &[Option<Bridge>], wiring: &Wiring, node: u8, id: TreeId) -> bool
     ensures { λ r. ⌜ r ≡ holdsNewest (now (bridges .entry)) (now (wiring .entry) .nodes) (idNumber id) node ⌝ }
 {
     if !is_on(wiring, node) {
@@ -97,7 +116,7 @@ fn holds(bridges: &[Option<Bridge>; 6], wiring: &Wiring, node: u8, id: TreeId) -
 }
 
 /// Says whether the newest tree of every box that is on is the one with a number.
-pub(crate) fn all_hold(bridges: &[Option<Bridge>; 6], wiring: &Wiring, id: TreeId) -> bool
+pub(crate) fn all_hold(bridges: &[Option<Bridge>], wiring: &Wiring, id: TreeId) -> bool
     ensures { λ r. ⌜ r ≡ allHold 6 (now (bridges .entry)) (now (wiring .entry) .nodes) (idNumber id) ⌝ }
 {
     let mut all = true;

@@ -1,13 +1,12 @@
 // The player of a script: the bridges in the boxes, the trees that were announced, and the clock.
 ghost use mathlib.Core.Path.{_≡_};
-ghost use mathlib.Core.List.{List, [], _∷_};
 ghost use mathlib.Core.Bool.{cond};
 ghost use Prim.Native.Nat.{ℕ, _<_, _+_, _-_, _^_, min, max};
 ghost use lib.Dec.{ltb};
-ghost use lib.ListN.{length, getD, replicate, set};
-ghost use Rattle.std.specs.Iters.{folded};
-ghost use Rattle.std.specs.Of.Vec.{vec-items};
+ghost use lib.ListN.{getD, set};
+ghost use Rattle.std.specs.Of.Vec.{vec-len, vec-items};
 ghost use Rattle.std.specs.Vec.{made};
+ghost use Rattle.std.specs.Iters.{folded};
 ghost use Rattle.std.specs.declared.option.Option.the-variants.{None};
 ghost use Rattle.forwarding.specs.State.{agedState, crashed};
 ghost use Rattle.scenario.specs.Forest.{Announced};
@@ -31,7 +30,7 @@ use wiring::boxes::Wiring;
 /// What a net is at a moment, but for its wiring.
 #[derive(Drop)]
 pub struct Player {
-    pub(crate) bridges: [Option<Bridge>; 6],
+    pub(crate) bridges: Vec<Option<Bridge>>,
     pub(crate) losses: Losses,
     pub(crate) clock: u64,
     pub(crate) forest: Forest,
@@ -39,7 +38,7 @@ pub struct Player {
 
 /// A tree, if all boxes that are on have it as their newest and hang together along it, and else the one found before.
 fn rests_by(
-    bridges: &[Option<Bridge>; 6],
+    bridges: &[Option<Bridge>],
     wiring: &Wiring,
     found: Option<Tree>,
     tree: Tree,
@@ -57,7 +56,7 @@ fn rests_by(
 }
 
 /// The tree along which the boxes rest, among some.
-fn resting(bridges: &[Option<Bridge>; 6], wiring: &Wiring, trees: &[Tree]) -> Option<Tree>
+fn resting(bridges: &[Option<Bridge>], wiring: &Wiring, trees: &[Tree]) -> Option<Tree>
     ensures { λ r. ⌜ r ≡ folded (restsBy (now (bridges .entry)) (now (wiring .entry) .nodes)) None (now (trees .entry)) ⌝ }
 {
     let mut found = None;
@@ -68,13 +67,13 @@ fn resting(bridges: &[Option<Bridge>; 6], wiring: &Wiring, trees: &[Tree]) -> Op
 }
 
 impl Player {
-    /// No bridge, no tree, and nothing to be lost.
+    /// Six boxes without bridges, no tree, and nothing to be lost.
     pub fn new(heap: Global) -> Result<Player, AllocError>
         ensures { λ r. ⌜ made r (λ p. Fresh p) ⌝ }
     {
         let forest = Forest::new(heap)?;
         Ok(Player {
-            bridges: [None, None, None, None, None, None],
+            bridges: boxes::empty(heap)?,
             losses: Losses::none(),
             clock: 0,
             forest,
@@ -98,23 +97,23 @@ impl Player {
 
     /// The bridge of a box goes: it is made anew, with the settings of its ports, when it is needed.
     pub fn renew(&mut self, node: u8)
-        ensures after { λ _. ⌜ now (self .exit) .bridges ≡ cond (ltb node 6) (set (now (self .entry) .bridges) node None) (now (self .entry) .bridges) ⌝ }
+        ensures after { λ _. ⌜ vec-items (now (self .exit) .bridges) ≡ cond (ltb node (vec-len (now (self .entry) .bridges))) (set (vec-items (now (self .entry) .bridges)) node None) (vec-items (now (self .entry) .bridges)) ⌝ }
         ensures same { λ _. ⌜ Kept (now (self .entry)) (now (self .exit)) ⌝ }
     {
         let i = node as usize;
-        if i < 6 {
+        if i < self.bridges.len() {
             self.bridges[i] = None;
         }
     }
 
     /// The bridge of a box falls.
     pub fn fall(&mut self, node: u8)
-        ensures here { λ _. ⌜ (node < 6 → stateIn (getD (now (self .exit) .bridges) node None) ≡ become crashed (stateIn (getD (now (self .entry) .bridges) node None))) ⌝ }
-        ensures others { λ _. ⌜ ((n : ℕ) → (n ≡ node → ⊥) → getD (now (self .exit) .bridges) n None ≡ getD (now (self .entry) .bridges) n None) ⌝ }
+        ensures here { λ _. ⌜ (node < vec-len (now (self .entry) .bridges) → stateIn (getD (vec-items (now (self .exit) .bridges)) node None) ≡ become crashed (stateIn (getD (vec-items (now (self .entry) .bridges)) node None))) ⌝ }
+        ensures others { λ _. ⌜ ((n : ℕ) → (n ≡ node → ⊥) → getD (vec-items (now (self .exit) .bridges)) n None ≡ getD (vec-items (now (self .entry) .bridges)) n None) ⌝ }
         ensures same { λ _. ⌜ Kept (now (self .entry)) (now (self .exit)) ⌝ }
     {
         let i = node as usize;
-        if i < 6 {
+        if i < self.bridges.len() {
             slots::crash(&mut self.bridges[i]);
         }
     }
@@ -122,7 +121,7 @@ impl Player {
     /// Ticks pass, and then each bridge forgets what is old.
     pub fn tick(&mut self, ticks: u32)
         ensures clock { λ _. ⌜ now (self .exit) .clock ≡ min (now (self .entry) .clock + ticks) (2 ^ 64 - 1) ⌝ }
-        ensures aged { λ _. ⌜ ((n : ℕ) → n < 6 → n < length (now (self .entry) .bridges) → stateIn (getD (now (self .exit) .bridges) n None) ≡ become (agedState (now (self .exit) .clock)) (stateIn (getD (now (self .entry) .bridges) n None))) ⌝ }
+        ensures aged { λ _. ⌜ ((n : ℕ) → n < vec-len (now (self .entry) .bridges) → stateIn (getD (vec-items (now (self .exit) .bridges)) n None) ≡ become (agedState (now (self .exit) .clock)) (stateIn (getD (vec-items (now (self .entry) .bridges)) n None))) ⌝ }
         ensures same { λ _. ⌜ now (self .exit) .losses ≡ now (self .entry) .losses ⌝ ∗ ⌜ now (self .exit) .forest ≡ now (self .entry) .forest ⌝ }
     {
         self.clock = self.clock.saturating_add(u64::from(ticks));
@@ -150,7 +149,7 @@ impl Player {
         ensures same { λ _. ⌜ Kept (now (self .entry)) (now (self .exit)) ⌝ }
     {
         let i = node as usize;
-        if i >= 6 || !is_on(wiring, node) {
+        if i >= self.bridges.len() || !is_on(wiring, node) {
             return Err(Refusal::NoBridge);
         }
         let Some(tree) = self.forest.find(seq) else {
@@ -162,8 +161,8 @@ impl Player {
 
     /// The latest tree that all boxes that are on have as their newest, and along which they hang together: then the net rests.
     pub fn rest(&self, wiring: &Wiring) -> Option<Tree>
-        ensures { λ r. ⌜ r ≡ folded (restsBy (now (self .entry) .bridges) (now (wiring .entry) .nodes)) None (treesOf (now (self .entry))) ⌝ }
+        ensures { λ r. ⌜ r ≡ folded (restsBy (vec-items (now (self .entry) .bridges)) (now (wiring .entry) .nodes)) None (treesOf (now (self .entry))) ⌝ }
     {
-        resting(&self.bridges, wiring, self.forest.trees())
+        resting(self.bridges.as_slice(), wiring, self.forest.trees())
     }
 }

@@ -125,7 +125,7 @@ impl Player {
     fn arrive(&mut self, wiring: &Wiring, packet: Packet, frame: Frame) -> Option<Outcome> {
         let node = packet.at.node;
         let i = node as usize;
-        if i >= 6 || !is_on(wiring, node) {
+        if i >= self.bridges.len() || !is_on(wiring, node) {
             return None;
         }
         let arrival = Arrival {
@@ -196,7 +196,7 @@ impl Player {
             return None;
         };
         let vlan = Vlan::new(number)?;
-        let tree = boxes::newest_in(&self.bridges, at.node)?;
+        let tree = boxes::newest_in(self.bridges.as_slice(), at.node)?;
         Some(Frame {
             tree,
             vlan,
@@ -217,7 +217,7 @@ impl Player {
         let mut steps = Vec::new(heap);
         let mut queue = Vec::new(heap);
         let i = at.node as usize;
-        if i >= 6 || !is_on(wiring, at.node) {
+        if i >= self.bridges.len() || !is_on(wiring, at.node) {
             return Ok(Ok(steps));
         }
         let frame = self.frame_from(wiring, at, from, to);
