@@ -1,6 +1,7 @@
 pub mod Boxes
 pub mod Cables
 pub mod Forest
+pub mod Journey
 pub mod Links
 pub mod Losses
 pub mod Plans

@@ -17,9 +17,7 @@ impl Losses {
     pub fn none() -> Losses
         ensures { λ r. ⌜ r .left ≡ replicate 6 (replicate 16 0) ⌝ }
     {
-        Losses {
-            left: [[0; 16]; 6],
-        }
+        Losses { left: [[0; 16]; 6] }
     }
 
     /// How many of the next packets that leave by a port are lost.

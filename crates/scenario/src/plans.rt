@@ -5,11 +5,11 @@ ghost use Prim.Native.Nat.{_≤_, _+_};
 ghost use lib.Dec.{ltb};
 ghost use lib.ListN.{getD};
 ghost use Rattle.scenario.specs.Plans.{there, aboveBox, rises, depthOf, ownRow, spreadOne, spread, parentRow, depthRow, numberAbove, Planned};
-use wiring::boxes::Power;
-use wiring::boxes::Wiring;
 use trees::Tree;
 use trees::TreeFault;
 use trees::TreeId;
+use wiring::boxes::Power;
+use wiring::boxes::Wiring;
 
 /// Says whether a box is there, on or off.
 fn is_there(wiring: &Wiring, node: u8) -> bool

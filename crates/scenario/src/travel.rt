@@ -1,14 +1,14 @@
 // A frame on its way from box to box, copy by copy.
 ghost use mathlib.Core.Path.{_≡_};
-ghost use mathlib.Core.Bool.{Bool, false, cond};
-ghost use Prim.Native.Nat.{ℕ, _<_, _≤_};
-ghost use lib.ListN.{length, getD};
+ghost use mathlib.Core.Bool.{false};
+ghost use Prim.Native.Nat.{_≤_};
 ghost use Rattle.std.specs.Iters.{folded};
 ghost use Rattle.std.specs.Of.Vec.{vec-len, vec-items};
-ghost use Rattle.std.specs.declared.option.Option.the-variants.{None};
-ghost use Rattle.scenario.specs.Cables.{farEnd};
-ghost use Rattle.scenario.specs.Losses.{leftAt, withLeft};
+ghost use Rattle.scenario.specs.Cables.{onAt};
+ghost use Rattle.std.specs.Vec.{made};
+ghost use Rattle.scenario.specs.Player.{Kept};
 ghost use Rattle.scenario.specs.Travel.{leavesFor, countedAt, wentBy, hearsBy};
+ghost use Rattle.scenario.specs.Journey.{Arrived, FrameAt, NoStep};
 use crate::Losses;
 use crate::Player;
 use crate::boxes;
@@ -67,11 +67,7 @@ pub fn leave(wiring: &Wiring, losses: &mut Losses, at: PortRef) -> Option<PortRe
     ensures after { λ _. ⌜ now (losses .exit) .left ≡ countedAt (now (wiring .entry) .nodes) (now (losses .entry) .left) at ⌝ }
 {
     let end = other_end(wiring, at)?;
-    if losses.takes(at) {
-        None
-    } else {
-        Some(end)
-    }
+    if losses.takes(at) { None } else { Some(end) }
 }
 
 /// Says whether a copy went out by a port of a box.
@@ -122,7 +118,10 @@ fn hand_on(
 
 impl Player {
     /// A copy comes to a box: nothing becomes of it where the box is off.
-    fn arrive(&mut self, wiring: &Wiring, packet: Packet, frame: Frame) -> Option<Outcome> {
+    fn arrive(&mut self, wiring: &Wiring, packet: Packet, frame: Frame) -> Option<Outcome>
+        ensures after { λ r. ⌜ Arrived (now (wiring .entry) .nodes) packet frame (now (self .entry)) r (now (self .exit)) ⌝ }
+        ensures same { λ _. ⌜ Kept (now (self .entry)) (now (self .exit)) ⌝ }
+    {
         let node = packet.at.node;
         let i = node as usize;
         if i >= self.bridges.len() || !is_on(wiring, node) {
@@ -152,7 +151,7 @@ impl Player {
         steps: &mut Vec<Step>,
         queue: &mut Vec<Packet>,
     ) -> Result<(), AllocError>
-        ensures { λ _. ⌜ vec-len (now (queue .entry)) ≤ vec-len (now (queue .exit)) ⌝ }
+        ensures same { λ _. ⌜ now (self .exit) .clock ≡ now (self .entry) .clock ⌝ ∗ ⌜ now (self .exit) .forest ≡ now (self .entry) .forest ⌝ ∗ ⌜ now (self .exit) .bridges ≡ now (self .entry) .bridges ⌝ }
     {
         steps.push(Step { node, outcome })?;
         let Some(by) = BridgeId::new(wiring.number(node)) else {
@@ -171,7 +170,9 @@ impl Player {
         frame: Frame,
         steps: &mut Vec<Step>,
         queue: &mut Vec<Packet>,
-    ) -> Result<(), AllocError> {
+    ) -> Result<(), AllocError>
+        ensures same { λ _. ⌜ now (self .exit) .clock ≡ now (self .entry) .clock ⌝ ∗ ⌜ now (self .exit) .forest ≡ now (self .entry) .forest ⌝ }
+    {
         for i in 0..MOST_COPIES {
             if i >= queue.len() {
                 return Ok(());
@@ -185,13 +186,9 @@ impl Player {
     }
 
     /// The frame that a station at a port sends along the newest tree of its box, if it may go.
-    fn frame_from(
-        &self,
-        wiring: &Wiring,
-        at: PortRef,
-        from: [u8; 6],
-        to: [u8; 6],
-    ) -> Option<Frame> {
+    fn frame_from(&self, wiring: &Wiring, at: PortRef, from: [u8; 6], to: [u8; 6]) -> Option<Frame>
+        ensures { λ r. ⌜ FrameAt (now (wiring .entry) .nodes) (vec-items (now (self .entry) .bridges)) at from to r ⌝ }
+    {
         let Socket::Access(number) = wiring.port(at) else {
             return None;
         };
@@ -213,7 +210,10 @@ impl Player {
         at: PortRef,
         from: [u8; 6],
         to: [u8; 6],
-    ) -> Result<Result<Vec<Step>, Fault>, AllocError> {
+    ) -> Result<Result<Vec<Step>, Fault>, AllocError>
+        ensures off { λ r. ⌜ (onAt (now (wiring .entry) .nodes) (at .node) ≡ false → made r NoStep) ⌝ }
+        ensures same { λ _. ⌜ now (self .exit) .clock ≡ now (self .entry) .clock ⌝ ∗ ⌜ now (self .exit) .forest ≡ now (self .entry) .forest ⌝ }
+    {
         let mut steps = Vec::new(heap);
         let mut queue = Vec::new(heap);
         let i = at.node as usize;
