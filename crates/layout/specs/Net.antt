@@ -6,12 +6,12 @@ use Rattle.std.specs.declared.result.Result.{Result}
 use Rattle.std.specs.declared.result.Result.the-variants.{Ok, Err}
 use Rattle.script.specs.declared.faults.Expected.{Expected}
 use Rattle.script.specs.declared.faults.Expected.the-variants as expected
-use Rattle.script.specs.Grammar.{thus, Aim, everyone, one, Said, blank, bridge, access, cable, pull, station, move, send, tick, lose, fall, start, rest}
+use Rattle.script.specs.Grammar.{thus, Aim, everyone, one, Said, blank, bridge, access, cable, pull, station, move, send, tick, lose, fall, start, rest, tree, adopt}
 use Rattle.wiring.specs.declared.boxes.Node.{Node}
 use Rattle.wiring.specs.declared.boxes.Power.the-variants as power
 use Rattle.wiring.specs.declared.boxes.Port.the-variants as port
-use Rattle.wiring.specs.Boxes.{portAt}
-use Rattle.wiring.specs.Rules.{wantThere, boxAdded, accessSet, cabled, pulled, fallen, started}
+use Rattle.wiring.specs.Boxes.{portAt, powerAt}
+use Rattle.wiring.specs.Rules.{wantThere, wantBox, boxAdded, accessSet, cabled, pulled, fallen, started}
 use Rattle.layout.specs.declared.net.Layout.{Layout}
 use Rattle.layout.specs.Stations.{Placed, placedIn, wantStation, stationAdded, stationMoved}
 
@@ -65,3 +65,5 @@ applied s (lose p n) = kept s (wantThere (portAt (s .nodes) p))
 applied s (fall n) = withNodes s (fallen (s .nodes) n)
 applied s (start n) = withNodes s (started (s .nodes) n)
 applied s rest = Ok s
+applied s (tree q n ps) = kept s (wantBox (powerAt (s .nodes) n))
+applied s (adopt n q) = kept s (wantBox (powerAt (s .nodes) n))

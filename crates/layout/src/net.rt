@@ -13,6 +13,7 @@ use script::lines::Target;
 use std::alloc::AllocError;
 use std::alloc::Global;
 use wiring::boxes::Wiring;
+use wiring::rules::want_box;
 use wiring::rules::want_there;
 
 /// Boxes, cables and stations.
@@ -83,6 +84,9 @@ impl Layout {
             Command::Lose { port, .. } => want_there(self.wiring.port(port)),
             Command::Fall { node } => self.wiring.fall(node),
             Command::Start { node } => self.wiring.start(node),
+            Command::Tree { node, .. } | Command::Adopt { node, .. } => {
+                want_box(self.wiring.power(node))
+            }
             Command::Blank | Command::Tick { .. } | Command::Rest => Ok(()),
         }
     }

@@ -4,7 +4,7 @@ use mathlib.Core.List.{List, [], _∷_}
 use Prim.Native.Nat.{ℕ}
 use lib.Dec.{eqb, leb}
 use Rattle.scan.specs.declared.bytes.Kind.{Kind}
-use Rattle.scan.specs.declared.bytes.Kind.the-variants.{Blank, Solid, Plain, Code, Line, Digit, Letter}
+use Rattle.scan.specs.declared.bytes.Kind.the-variants.{Blank, Solid, Plain, Code, Line, Digit, BoxDigit, Letter}
 
 -- space, tab and carriage return
 abbrev pub blank : ℕ → Bool
@@ -23,6 +23,8 @@ isOf Code b = not (eqb b 35)
 -- what stands before the end of a line
 isOf Line b = not (eqb b 10)
 isOf Digit b = between 48 57 b
+-- the number of a box
+isOf BoxDigit b = between 48 53 b
 -- what a name is made of
 isOf Letter b = between 97 122 b || between 65 90 b || between 48 57 b || eqb b 45
 

@@ -11,7 +11,7 @@ use Rattle.std.specs.Iters.{folded}
 use Rattle.std.specs.shelf.Lists.{leading}
 use Rattle.std.specs.shelf.Text.{sameBytes}
 use Rattle.scan.specs.declared.bytes.Kind.{Kind}
-use Rattle.scan.specs.declared.bytes.Kind.the-variants.{Digit, Letter}
+use Rattle.scan.specs.declared.bytes.Kind.the-variants.{Digit, BoxDigit, Letter}
 use Rattle.scan.specs.declared.parts.PortRef.{PortRef}
 use Rattle.scan.specs.Bytes.{all, between, isOf}
 
@@ -66,3 +66,14 @@ addressOf w =
 
 abbrev pub nameOf : List ℕ → Option (List ℕ)
 nameOf w = cond (isName w) (Some w) None
+
+-- the box above a box: the digit at its place, and itself where there is none
+abbrev pub parentAt : List ℕ → ℕ → ℕ
+parentAt w n = cond (ltb n (length w)) (getD w n 0 - 48) n
+
+-- 1 to 6 digits from 0 to 5: the box above box 0, above box 1 and so on
+abbrev pub parentsOf : List ℕ → Option (List ℕ)
+parentsOf w =
+    cond (between 1 6 (length w) && all (isOf BoxDigit) w)
+    (Some (parentAt w 0 ∷ parentAt w 1 ∷ parentAt w 2 ∷ parentAt w 3 ∷ parentAt w 4 ∷ parentAt w 5 ∷ []))
+    None

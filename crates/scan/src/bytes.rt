@@ -15,6 +15,7 @@ pub enum Kind {
     Code,
     Line,
     Digit,
+    BoxDigit,
     Letter,
 }
 
@@ -29,6 +30,7 @@ pub fn is_of(kind: Kind, b: u8) -> bool
         Kind::Code => b != b'#',
         Kind::Line => b != b'\n',
         Kind::Digit => b'0' <= b && b <= b'9',
+        Kind::BoxDigit => b'0' <= b && b <= b'5',
         Kind::Letter => b.is_ascii_alphanumeric() || b == b'-',
     }
 }

@@ -5,7 +5,7 @@ ghost use Prim.Native.Nat.{ℕ, _+_, _<_, _≤_};
 ghost use lib.Dec.{eqb};
 ghost use lib.ListN.{length, getD};
 ghost use Rattle.std.specs.Options.{Cases as BySome};
-ghost use Rattle.scan.specs.Parts.{isDigits, numberIn, portOf, isName, hexOf, pairAt, colons, addressOf};
+ghost use Rattle.scan.specs.Parts.{isDigits, numberIn, portOf, isName, hexOf, pairAt, colons, addressOf, parentAt, parentsOf};
 use crate::bytes::Kind;
 use crate::bytes::all_of;
 use crate::bytes::run;
@@ -123,5 +123,34 @@ pub fn address(word: &[u8]) -> Option<[u8; 6]>
         pair(word, 9)?,
         pair(word, 12)?,
         pair(word, 15)?,
+    ])
+}
+
+/// The box above a box, by the digit at its place; a box that has none stands above itself.
+fn parent_at(word: &[u8], node: u8) -> u8
+    ensures { λ r. ⌜ r ≡ parentAt (now (word .entry)) node ⌝ }
+{
+    let i = node as usize;
+    if i < word.len() {
+        word[i].saturating_sub(48)
+    } else {
+        node
+    }
+}
+
+/// Reads the boxes above boxes 0, 1, 2 and so on, a digit for each.
+pub fn parents(word: &[u8]) -> Option<[u8; 6]>
+    ensures { λ r. ⌜ r ≡ parentsOf (now (word .entry)) ⌝ }
+{
+    if word.is_empty() || word.len() > 6 || !all_of(word, Kind::BoxDigit) {
+        return None;
+    }
+    Some([
+        parent_at(word, 0),
+        parent_at(word, 1),
+        parent_at(word, 2),
+        parent_at(word, 3),
+        parent_at(word, 4),
+        parent_at(word, 5),
     ])
 }

@@ -25,7 +25,7 @@ use Rattle.script.specs.declared.verbs.Verb.the-variants as verb
 use Rattle.script.specs.Verbs.{verbOf}
 use Rattle.scan.specs.Bytes.{all, between, isOf}
 use Rattle.scan.specs.Words.{wordsOf, afterOf, skipped}
-use Rattle.scan.specs.Parts.{isName, numberIn, portOf, nameOf, addressOf}
+use Rattle.scan.specs.Parts.{isName, numberIn, portOf, nameOf, addressOf, parentsOf}
 
 -- to whom a station sends
 pub data Aim : Type 0 where
@@ -52,6 +52,10 @@ pub data Said : Type 0 where
   fall : ℕ → Said
   start : ℕ → Said
   rest : Said
+  -- sequence number, box, the box above each box
+  tree : ℕ → ℕ → List ℕ → Said
+  -- box, sequence number
+  adopt : ℕ → ℕ → Said
 
 abbrev pub aimed : Target → Aim
 aimed target.All = everyone
@@ -72,6 +76,8 @@ meant (command.Lose p n) = lose p n
 meant (command.Fall n) = fall n
 meant (command.Start n) = start n
 meant command.Rest = rest
+meant (command.Tree q n ps) = tree q n ps
+meant (command.Adopt n q) = adopt n q
 
 abbrev pub told : Result Command Expected → Result Said Expected
 told (Ok c) = Ok (meant c)
@@ -150,6 +156,16 @@ fallOf ws = box ws (λ n ws. all-said ws (fall n))
 abbrev pub startOf : List (List ℕ) → Result Said Expected
 startOf ws = box ws (λ n ws. all-said ws (start n))
 
+-- SEQ, a sequence number
+abbrev pub sequence : List (List ℕ) → (ℕ → List (List ℕ) → Result Said Expected) → Result Said Expected
+sequence = reads (numberIn 1 1000) expected.Sequence
+
+abbrev pub treeOf : List (List ℕ) → Result Said Expected
+treeOf ws = sequence ws (λ q ws. box ws (λ n ws. reads parentsOf expected.Parents ws (λ ps ws. all-said ws (tree q n ps))))
+
+abbrev pub adoptOf : List (List ℕ) → Result Said Expected
+adoptOf ws = box ws (λ n ws. sequence ws (λ q ws. all-said ws (adopt n q)))
+
 -- NAME or all
 abbrev pub aimOf : List ℕ → Option Aim
 aimOf w = cond (sameBytes w (codes "all")) (Some everyone) (cond (isName w) (Some (one w)) None)
@@ -182,6 +198,8 @@ saidBy verb.Lose ws t = loseOf ws
 saidBy verb.Fall ws t = fallOf ws
 saidBy verb.Start ws t = startOf ws
 saidBy verb.Rest ws t = restOf ws
+saidBy verb.Tree ws t = treeOf ws
+saidBy verb.Adopt ws t = adoptOf ws
 
 abbrev pub saidFor : Option Verb → List (List ℕ) → List ℕ → Result Said Expected
 saidFor None ws t = Err expected.Command

@@ -22,4 +22,6 @@ verbOf w =
     (cond (sameBytes w (codes "lose")) (Some verb.Lose)
     (cond (sameBytes w (codes "fall")) (Some verb.Fall)
     (cond (sameBytes w (codes "start")) (Some verb.Start)
-    (cond (sameBytes w (codes "rest")) (Some verb.Rest) None)))))))))))
+    (cond (sameBytes w (codes "rest")) (Some verb.Rest)
+    (cond (sameBytes w (codes "tree")) (Some verb.Tree)
+    (cond (sameBytes w (codes "adopt")) (Some verb.Adopt) None)))))))))))))

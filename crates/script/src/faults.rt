@@ -32,6 +32,8 @@ pub enum Expected {
     StationRoom,
     BoxOn,
     BoxOff,
+    Sequence,
+    Parents,
 }
 
 pub impl fmt::Display for Expected as ExpectedDisplay {
@@ -74,6 +76,8 @@ impl Expected {
             Expected::StationRoom => "no more than 32 stations",
             Expected::BoxOn => "a box that is on",
             Expected::BoxOff => "a box that is off",
+            Expected::Sequence => "a sequence number from 1 to 1000",
+            Expected::Parents => "a word of 1 to 6 digits from 0 to 5",
         }
     }
 }

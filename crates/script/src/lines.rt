@@ -7,8 +7,8 @@ ghost use lib.ListN.{length};
 ghost use Rattle.std.specs.shelf.Lists.{ending};
 ghost use Rattle.scan.specs.Bytes.{between, isOf};
 ghost use Rattle.scan.specs.Words.{afterOf, skipped};
-ghost use Rattle.scan.specs.Parts.{numberIn, portOf, nameOf, addressOf};
-ghost use Rattle.script.specs.Grammar.{part, tail, ended, told, aimed, aimOf, textOf, textIn, sendOf, restOf, saidBy, codeOf, commandOf, bridgeOf, accessOf, cableOf, pullOf, stationOf, moveOf, tickOf, loseOf, fallOf, startOf};
+ghost use Rattle.scan.specs.Parts.{numberIn, portOf, nameOf, addressOf, parentsOf};
+ghost use Rattle.script.specs.Grammar.{part, tail, ended, told, aimed, aimOf, textOf, textIn, sendOf, restOf, saidBy, codeOf, commandOf, bridgeOf, accessOf, cableOf, pullOf, stationOf, moveOf, tickOf, loseOf, fallOf, startOf, treeOf, adoptOf};
 ghost use Rattle.scan.specs.Reading.{left, unread};
 use crate::faults::Expected;
 use crate::verbs::Verb;
@@ -22,6 +22,7 @@ use scan::parts::PortRef;
 use scan::parts::address;
 use scan::parts::is_name;
 use scan::parts::number;
+use scan::parts::parents;
 use scan::parts::port;
 use scan::reader::Words;
 
@@ -81,6 +82,15 @@ pub enum Command<'a> {
         node: u8,
     },
     Rest,
+    Tree {
+        seq: u32,
+        node: u8,
+        parents: [u8; 6],
+    },
+    Adopt {
+        node: u8,
+        seq: u32,
+    },
 }
 
 /// Takes a number between two limits.
@@ -120,6 +130,17 @@ fn next_address(words: &mut Words<'_>) -> Result<[u8; 6], Expected>
         return Err(Expected::Address);
     };
     address(word).ok_or(Expected::Address)
+}
+
+/// Takes the box above each box.
+fn next_parents(words: &mut Words<'_>) -> Result<[u8; 6], Expected>
+    ensures value { λ r. ⌜ r ≡ part parentsOf Expected.Parents (left (now (words .entry))) ⌝ }
+    ensures after { λ _. ⌜ left (now (words .exit)) ≡ tail (left (now (words .entry))) ⌝ }
+{
+    let Some(word) = words.next() else {
+        return Err(Expected::Parents);
+    };
+    parents(word).ok_or(Expected::Parents)
 }
 
 /// Takes the name of a station.
@@ -309,6 +330,25 @@ fn rest<'a>(words: &mut Words<'a>) -> Result<Command<'a>, Expected>
     Ok(Command::Rest)
 }
 
+fn tree<'a>(words: &mut Words<'a>) -> Result<Command<'a>, Expected>
+    ensures { λ r. ⌜ told r ≡ treeOf (left (now (words .entry))) ⌝ }
+{
+    let seq = next_number(words, 1, 1000, Expected::Sequence)?;
+    let node = next_number(words, 0, 5, Expected::BoxNumber)? as u8;
+    let parents = next_parents(words)?;
+    at_end(words)?;
+    Ok(Command::Tree { seq, node, parents })
+}
+
+fn adopt<'a>(words: &mut Words<'a>) -> Result<Command<'a>, Expected>
+    ensures { λ r. ⌜ told r ≡ adoptOf (left (now (words .entry))) ⌝ }
+{
+    let node = next_number(words, 0, 5, Expected::BoxNumber)? as u8;
+    let seq = next_number(words, 1, 1000, Expected::Sequence)?;
+    at_end(words)?;
+    Ok(Command::Adopt { node, seq })
+}
+
 /// Reads what follows the first word of a command.
 fn read_command<'a>(verb: Verb, words: &mut Words<'a>) -> Result<Command<'a>, Expected>
     ensures { λ r. ⌜ told r ≡ saidBy verb (left (now (words .entry))) (textIn (unread (now (words .entry)))) ⌝ }
@@ -326,6 +366,8 @@ fn read_command<'a>(verb: Verb, words: &mut Words<'a>) -> Result<Command<'a>, Ex
         Verb::Fall => fall(words),
         Verb::Start => start(words),
         Verb::Rest => rest(words),
+        Verb::Tree => tree(words),
+        Verb::Adopt => adopt(words),
     }
 }
 

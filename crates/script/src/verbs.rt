@@ -18,6 +18,8 @@ pub enum Verb {
     Fall,
     Start,
     Rest,
+    Tree,
+    Adopt,
 }
 
 /// Finds the command that a word begins.
@@ -59,6 +61,12 @@ pub fn find(word: &[u8]) -> Option<Verb>
     }
     if same(word, b"rest") {
         return Some(Verb::Rest);
+    }
+    if same(word, b"tree") {
+        return Some(Verb::Tree);
+    }
+    if same(word, b"adopt") {
+        return Some(Verb::Adopt);
     }
     None
 }

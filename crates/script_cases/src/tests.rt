@@ -39,6 +39,21 @@ fn words_and_numbers(rt: LibcRuntime) -> Result<(), Fail> {
     faults_at(heap, b"tick 100000\r\ntick 100001\r\n", 2, Expected::Ticks)?;
     faults_at(heap, b"tick 4294967297", 1, Expected::Ticks)?;
     faults_at(heap, b"rest\nrest now", 2, Expected::End)?;
+    faults_at(
+        heap,
+        b"bridge 1 2\ntree 1 1 01\ntree 1001 1 01",
+        3,
+        Expected::Sequence,
+    )?;
+    faults_at(heap, b"bridge 1 2\ntree 1 0 01", 2, Expected::BoxThere)?;
+    faults_at(heap, b"tree 1 0 0600", 1, Expected::Parents)?;
+    faults_at(heap, b"tree 1 0 0123450", 1, Expected::Parents)?;
+    faults_at(
+        heap,
+        b"bridge 1 2\nadopt 1 1\nadopt 2 1",
+        3,
+        Expected::BoxThere,
+    )?;
     faults_at(heap, b"tick 1 # caf\xc3\xa9", 1, Expected::Text)?;
     faults_at(heap, b"tick 1\ntick \x00", 2, Expected::Text)
 }

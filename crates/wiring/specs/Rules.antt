@@ -32,6 +32,12 @@ wantThere port.Free = Ok tt
 wantThere (port.Access v) = Ok tt
 wantThere (port.Cabled q) = Ok tt
 
+-- a box that is there
+abbrev pub wantBox : Power → Result (Unit {0}) Expected
+wantBox power.Absent = Err expected.BoxThere
+wantBox power.On = Ok tt
+wantBox power.Off = Ok tt
+
 -- a port that is free
 abbrev pub wantFree : Port → Result (Unit {0}) Expected
 wantFree port.Absent = Err expected.PortThere

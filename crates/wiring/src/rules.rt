@@ -1,7 +1,7 @@
 // What a script may do to boxes, ports and cables, and what it may not.
 ghost use mathlib.Core.Path.{_≡_};
 ghost use Rattle.wiring.specs.Boxes.{powerAt, portAt};
-ghost use Rattle.wiring.specs.Rules.{Did, samePort, wantThere, wantFree, wantAccess, cabledTo, boxAdded, accessSet, cabled, pulled, fallen, started};
+ghost use Rattle.wiring.specs.Rules.{Did, samePort, wantThere, wantBox, wantFree, wantAccess, cabledTo, boxAdded, accessSet, cabled, pulled, fallen, started};
 use crate::boxes::Port;
 use crate::boxes::Power;
 use crate::boxes::Wiring;
@@ -22,6 +22,16 @@ pub fn want_there(port: Port) -> Result<(), Expected>
     match port {
         Port::Absent => Err(Expected::PortThere),
         _ => Ok(()),
+    }
+}
+
+/// Refuses a box that isn't there.
+pub fn want_box(power: Power) -> Result<(), Expected>
+    ensures { λ r. ⌜ r ≡ wantBox power ⌝ }
+{
+    match power {
+        Power::Absent => Err(Expected::BoxThere),
+        Power::On | Power::Off => Ok(()),
     }
 }
 

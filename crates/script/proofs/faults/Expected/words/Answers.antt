@@ -76,3 +76,9 @@ returns-in-BoxOn c = sym (ap wordsFor (c .in-BoxOn .is))
 
 pub returns-in-BoxOff : need.returns-in-BoxOff
 returns-in-BoxOff c = sym (ap wordsFor (c .in-BoxOff .is))
+
+pub returns-in-Sequence : need.returns-in-Sequence
+returns-in-Sequence c = sym (ap wordsFor (c .in-Sequence .is))
+
+pub returns-in-Parents : need.returns-in-Parents
+returns-in-Parents c = sym (ap wordsFor (c .in-Parents .is))

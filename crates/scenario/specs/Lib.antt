@@ -1,0 +1,11 @@
+pub mod Boxes
+pub mod Cables
+pub mod Forest
+pub mod Journey
+pub mod Links
+pub mod Losses
+pub mod Plans
+pub mod Player
+pub mod Resting
+pub mod Slots
+pub mod Travel

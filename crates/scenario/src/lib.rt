@@ -1,0 +1,32 @@
+// Plays bridges, cables and stations as a script says: each bridge by value, each copy of a frame from port to port.
+mod boxes;
+mod cables;
+mod forest;
+mod links;
+mod losses;
+mod plans;
+mod player;
+mod resting;
+mod slots;
+mod travel;
+
+pub use cables::is_on;
+pub use cables::link_at;
+pub use cables::other_end;
+pub use cables::port_at_start;
+pub use forest::Forest;
+pub use forest::Refusal;
+pub use links::links_of;
+pub use links::relink;
+pub use links::start_ports;
+pub use losses::Losses;
+pub use plans::tree_over;
+pub use player::Player;
+pub use resting::rests_along;
+pub use travel::Frame;
+pub use travel::MOST_COPIES;
+pub use travel::Outcome;
+pub use travel::Packet;
+pub use travel::Step;
+pub use travel::heard_at;
+pub use travel::leave;
