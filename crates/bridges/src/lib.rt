@@ -1,4 +1,6 @@
 // The promise of the whole net: a crate of statements, each proved on a function whose `ensures` names it.
+#![tactic(auto)]
+
 mod given;
 mod promises;
 mod witness;

@@ -1,4 +1,6 @@
 // CRC-32 as in IEEE 802.3: the sum that ends every message between bridges.
+#![tactic(auto)]
+
 mod bits;
 mod burst;
 mod exported;

@@ -1,4 +1,6 @@
 // The forwarding database of one tree: where stations were last heard, and when; what is old is forgotten, and when there is no room the longest unheard of goes.
+#![tactic(auto)]
+
 mod ageing;
 mod entry;
 mod learning;

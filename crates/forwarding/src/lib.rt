@@ -1,4 +1,6 @@
 // One bridge by value: what it holds, what it has learnt, and what it does with a frame.
+#![tactic(auto)]
+
 mod along;
 mod bridge;
 mod fault;

@@ -1,4 +1,6 @@
 // Frames of stations, frames between bridges, and the settings of a bridge, in bytes.
+#![tactic(auto)]
+
 mod forwarded;
 mod settings;
 mod station_frame;

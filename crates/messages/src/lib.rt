@@ -1,4 +1,6 @@
 // The messages by which bridges find their neighbours, their links and their trees, in bytes.
+#![tactic(auto)]
+
 mod ack;
 mod hello;
 mod link_state;

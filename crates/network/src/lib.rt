@@ -1,6 +1,8 @@
 // A net of bridges that do what the contracts of `forwarding` say, with stations plugged in, links and trees that come
 // and go, and copies of frames under way: that all that is promised of the net of bridges holds of it. Each theorem is
 // the `ensures` of a function.
+#![tactic(auto)]
+
 ghost use Rattle.network.specs.AsContracts.{AsContracts};
 ghost use Rattle.network.specs.Simulation.{RunsAsNet, GoesOnAsNet, AlwaysSafe};
 

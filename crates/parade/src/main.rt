@@ -1,4 +1,6 @@
 // Reads a script from standard input and plays it.
+#![tactic(auto)]
+
 mod frames;
 mod play;
 mod print;

@@ -1,4 +1,6 @@
 // The control messages that wait to be sent by one port: of each kind and bridge only the newest.
+#![tactic(auto)]
+
 mod control;
 mod link_acks;
 mod messages;

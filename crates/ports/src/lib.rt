@@ -1,4 +1,6 @@
 // The ports of a bridge, and by which of them a frame goes out.
+#![tactic(auto)]
+
 mod egress;
 mod ingress;
 mod lowest;

@@ -1,4 +1,6 @@
 // What leaves by each port: control messages first, then frames in the order in which they came, up to 64 each tick.
+#![tactic(auto)]
+
 mod port;
 mod queues;
 #[cfg(test)]

@@ -1,5 +1,5 @@
 -- The frames of a ring: how many, one more at the end, one less in front.
-use Rattle.std.proofs.Common.{◌≡◌, ℕ, zero, suc, ◌+◌, ◌-◌, ◌%◌, ◌<◌, ◌≤◌, Bool, true, false, ◌≢◌, List, [], ◌∷◌, ◌++◌, map, length, get_or, drop, set, IfSome, Some, None, Option, sym, refl, ap, ◌∙◌, subst, add-zero, add-one, arith, get_or-set_other, get_or-set_same, Bor}
+use Rattle.std.proofs.Common.{◌≡◌, ℕ, zero, suc, ◌+◌, ◌-◌, ◌%◌, ◌<◌, ◌≤◌, Bool, true, false, ◌≢◌, List, [], ◌∷◌, ◌++◌, map, length, get_or, drop, set, IfSome, Some, None, Option, sym, refl, ap, ◌∙◌, subst, add-zero, add-one, arith, get_or-set_other, get_or-set_same, MutBor}
 use Rattle.std.proofs.lemmas.List.{set-set, map-set, length-map, get_or-map}
 use Rattle.rows.specs.Slot.{frame}
 use Rattle.rows.specs.Row.{frames_from}
@@ -71,7 +71,7 @@ slots-front ss h n s f len lt some is fs =
     cc
 
 -- the place that was made empty is lent empty
-pub lent-empty : (r : Option (Bor Slot)) (ss : List Slot) (i : ℕ) (a : Slot) → i < length ss → frame a ≡ [] → IfSome r (λ x. x.now ≡ get_or (set ss i a) i x.now) → IfSome r (λ x. frame x.now ≡ [])
+pub lent-empty : (r : Option (MutBor Slot)) (ss : List Slot) (i : ℕ) (a : Slot) → i < length ss → frame a ≡ [] → IfSome r (λ x. x.now ≡ get_or (set ss i a) i x.now) → IfSome r (λ x. frame x.now ≡ [])
 lent-empty None ss i a lt none is = tt
 lent-empty (Some x) ss i a lt none is = ap frame (is ∙ get_or-set_same ss i a x.now lt) ∙ none
 

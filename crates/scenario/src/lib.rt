@@ -1,4 +1,6 @@
 // Plays bridges, cables and stations as a script says: each bridge by value, each copy of a frame from port to port.
+#![tactic(auto)]
+
 mod boxes;
 mod cables;
 mod forest;

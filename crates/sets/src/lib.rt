@@ -1,4 +1,6 @@
 // Numbers of bridges, and sets of them: what every layer above counts and names bridges by.
+#![tactic(auto)]
+
 mod bridge_id;
 mod bridge_set;
 mod mask;

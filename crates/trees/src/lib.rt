@@ -1,4 +1,6 @@
 // Trees over bridges, each with a number of its own: frames are carried along them.
+#![tactic(auto)]
+
 mod shape;
 mod spanning_tree;
 mod tree_id;

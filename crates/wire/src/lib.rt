@@ -1,4 +1,6 @@
 // Reading and writing bytes: numbers high byte first, and the sum at the end of every message between bridges.
+#![tactic(auto)]
+
 mod count;
 mod fault;
 mod reader;

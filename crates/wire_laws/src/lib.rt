@@ -1,4 +1,6 @@
 // What holds of the messages in bytes, for every one of them: theorems over the definitions that the contracts of `wire` cite.
+#![tactic(auto)]
+
 ghost use Rattle.wire_laws.specs.Damage.{Told};
 ghost use Rattle.wire_laws.specs.RoundTrips.{RoundTrips};
 

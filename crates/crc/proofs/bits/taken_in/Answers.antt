@@ -5,7 +5,7 @@ use Rattle.crc.proofs.bits.taken_in.Goals as goal
 pub loop-byte-preserved : goal.loop-byte-preserved
 loop-byte-preserved c =
     let e = through-next c.loop-byte.register c.loop-byte.byte-index c.args.bytes.now c.loop-byte-test.true
-    (c.type-inv.bytes c.loop-byte.byte-index).fits in
+    (c.type_inv.bytes c.loop-byte.byte-index).fits in
     cc
 
 pub returns : goal.returns

@@ -7,4 +7,4 @@ pub returns : goal.returns
 returns c =
     (λ i. bit_xor (bit_xor (bit_xor (bit_xor (bit_xor (bit_xor (bit_xor (c.by8.ensures i) (c.by7.ensures i)) (c.by6.ensures i)) (c.by5.ensures i))
     (c.by4.ensures i)) (c.by3.ensures i)) (c.by2.ensures i)) (c.by1.ensures i))
-    ∙ shifted-eight c.args.word c.to-le-bytes.result c.ranges.word.fits c.to-le-bytes.ensures
+    ∙ shifted-eight c.args.word c.to_le_bytes.result c.ranges.word.fits c.to_le_bytes.ensures

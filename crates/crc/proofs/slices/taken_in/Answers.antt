@@ -4,14 +4,14 @@ use Rattle.crc.proofs.Eight.{through-eight, tail-bytes}
 use Rattle.crc.proofs.slices.taken_in.Goals as goal
 
 pub loop-rest-init : goal.loop-rest-init
-loop-rest-init c = (refl, λ i. (c.type-inv.bytes i).fits)
+loop-rest-init c = (refl, λ i. (c.type_inv.bytes i).fits)
 
 pub loop-rest-preserved : goal.loop-rest-preserved
 loop-rest-preserved c =
     let inv = c.loop-rest.invariant in
     let xs = c.loop-rest.rest.now in (
-      through-eight c.loop-rest.register c.shift-eight-register.result c.from.result c.from-le-bytes-word.result xs (search rules)
-          inv.1 c.from.ensures c.from-le-bytes-word.ensures c.shift-eight-register.ensures ∙ inv.0,
+      through-eight c.loop-rest.register c.shift_eight-register.result c.from.result c.from_le_bytes-word.result xs (search rules)
+          inv.1 c.from.ensures c.from_le_bytes-word.ensures c.shift_eight-register.ensures ∙ inv.0,
       tail-bytes xs inv.1,
     )
 

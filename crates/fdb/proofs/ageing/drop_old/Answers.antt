@@ -7,7 +7,7 @@ use Rattle.fdb.proofs.ageing.drop_old.Goals as goal
 pub returns : goal.returns
 returns c =
     let h : vec_items c.truncate.new.self ≡ remembered c.args.tick (vec_items c.args.entries.now)
-    = cc (with_items_is c.args.entries.now c.keep-fresh-count.new.entries (omega arith)) in
+    = cc (with_items_is c.args.entries.now c.keep_fresh-count.new.entries (omega arith)) in
     record {
       items = h;
       sorted = subst (λ es. ascending es ≡ true) (sym h) (ascending-remembered c.args.tick (vec_items c.args.entries.now) c.requires);

@@ -7,11 +7,11 @@ use Rattle.fdb.proofs.learning.make_room.Goals as goal
 pub returns-in-Some : goal.returns-in-Some
 returns-in-Some c = search (rules, room-full, leb-true)
 
-pub returns-in-default : goal.returns-in-default
-returns-in-default c =
+pub returns-in_default : goal.returns-in_default
+returns-in_default c =
     let n : oldest c.args.keep (vec_items c.args.entries.now) ≡ None = search rules in
     let l : length (vec_items c.args.entries.now) < 2 = oldest-some c.args.keep (vec_items c.args.entries.now) c.requires.sorted n in
     absurd (grind (arith, leb-true))
 
-pub returns-else-is-full : goal.returns-else-is-full
-returns-else-is-full c = search (rules, room-free, leb-false)
+pub returns-else-is_full : goal.returns-else-is_full
+returns-else-is_full c = search (rules, room-free, leb-false)

@@ -11,7 +11,7 @@ pub returns-in-Ok : goal.returns-in-Ok
 returns-in-Ok c =
     let es = vec_items c.args.entries.now in
     let h : set es c.in-Ok.i c.args.entry ≡ learned c.args.entry c.args.keep es
-    = noted c.args.entry c.args.keep es c.as-slice.result.now c.in-Ok.i c.as-slice.ensures.value c.in-Ok.ensures in
+    = noted c.args.entry c.args.keep es c.as_slice.result.now c.in-Ok.i c.as_slice.ensures.value c.in-Ok.ensures in
     record { items = h; sorted = subst (λ xs. ascending xs ≡ true) (sym h) (learned-ascending c.args.entry c.args.keep es c.requires.sorted); room = (omega arith, omega arith) }
 
 pub returns-in-Err : goal.returns-in-Err

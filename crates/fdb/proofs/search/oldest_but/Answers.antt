@@ -10,12 +10,12 @@ pub loop-i-preserved-in-Some : goal.loop-i-preserved-in-Some
 loop-i-preserved-in-Some c =
     let more = oldest-more c.args.keep c.args.entries.now c.loop-i.i (omega arith) (omega arith) in grind (arith, nat_tests, more)
 
-pub loop-i-preserved-in-default : goal.loop-i-preserved-in-default
-loop-i-preserved-in-default c =
+pub loop-i-preserved-in_default : goal.loop-i-preserved-in_default
+loop-i-preserved-in_default c =
     let more = oldest-more c.args.keep c.args.entries.now c.loop-i.i (omega arith) (omega arith) in grind (arith, nat_tests, more)
 
-pub loop-i-preserved-in-default·2 : goal.loop-i-preserved-in-default·2
-loop-i-preserved-in-default·2 c =
+pub loop-i-preserved-in_default-2 : goal.loop-i-preserved-in_default-2
+loop-i-preserved-in_default-2 c =
     let more = oldest-more c.args.keep c.args.entries.now c.loop-i.i (omega arith) (omega arith) in grind (arith, nat_tests, more)
 
 pub loop-i-preserved : goal.loop-i-preserved

@@ -4,12 +4,12 @@ use Rattle.layout.proofs.stations.find_name.Goals as goal
 
 pub loop-i-preserved : goal.loop-i-preserved
 loop-i-preserved c =
-    let e = name-more c.args.name.now c.args.stations.now c.loop-i.i c.index-stations-i.result c.loop-i-test.true c.index-stations-i.is c.if-not-is-named.ensures in
+    let e = name-more c.args.name.now c.args.stations.now c.loop-i.i c.index-stations-i.result c.loop-i-test.true c.index-stations-i.is c.if-not-is_named.ensures in
     (omega arith, omega arith)
 
-pub returns-else-not-is-named : goal.returns-else-not-is-named
+pub returns-else-not-is-named : goal.returns-else-not-is_named
 returns-else-not-is-named c =
-    let e = name-here c.args.name.now c.args.stations.now c.loop-i.i c.index-stations-i.result c.loop-i-test.true c.index-stations-i.is c.if-not-is-named.ensures in
+    let e = name-here c.args.name.now c.args.stations.now c.loop-i.i c.index-stations-i.result c.loop-i-test.true c.index-stations-i.is c.if-not-is_named.ensures in
     record { value = omega arith; within = omega arith }
 
 pub returns-after-loop-i : goal.returns-after-loop-i

@@ -8,8 +8,8 @@ use Rattle.ports.proofs.targets.ports_to.Goals.{then-contains, else-contains}
 pub neighbours-preserved : goal.neighbours-preserved
 neighbours-preserved c = elim c.if-contains.branch [
   | then-contains w ↦ one_more (has c.args.neighbours.bits) (has c.neighbours.rest.bits) (has c.if-contains.rest.bits) (ports_of c.args.ports.now) c.neighbours.c c.in-Some.neighbour.value
-      c.neighbours.flags c.if-contains.flags w.lowest-port.result
-      c.in-Some.neighbour.ok c.in-Some.ensures.1 c.neighbours.invariant (sym c.contains.ensures ∙ w.if-contains.true) w.lowest-port.ensures (w.flags-is ∙ w.mark.ensures)
+      c.neighbours.flags c.if-contains.flags w.lowest_port.result
+      c.in-Some.neighbour.ok c.in-Some.ensures.1 c.neighbours.invariant (sym c.contains.ensures ∙ w.if-contains.true) w.lowest_port.ensures (w.flags-is ∙ w.mark.ensures)
       (λ k h. ap (λ s. has s.bits k) w.rest-is ∙ w.without-rest.ensures k h)
   | else-contains w ↦ none_more (has c.args.neighbours.bits) (has c.neighbours.rest.bits) (has c.if-contains.rest.bits) (ports_of c.args.ports.now) c.neighbours.c c.in-Some.neighbour.value
       c.neighbours.flags c.if-contains.flags

@@ -7,7 +7,7 @@ loop-i-init c = (sym (up_none _ _ _), sym (depth-none _ _ _), search rules)
 
 pub loop-i-preserved : goal.loop-i-preserved
 loop-i-preserved c = (
-  up_step c.loop-i.-i _ _ _ _ _ c.loop-i.invariant.0 c.above-box-at.ensures,
-  depth-step c.loop-i.-i _ _ _ _ _ _ c.loop-i.invariant.0 c.loop-i.invariant.1 c.rise-depth.ensures.0,
+  up_step c.loop-i._i _ _ _ _ _ c.loop-i.invariant.0 c.above_box-at.ensures,
+  depth-step c.loop-i._i _ _ _ _ _ _ c.loop-i.invariant.0 c.loop-i.invariant.1 c.rise-depth.ensures.0,
   omega (arith, c.loop-i.invariant.2, c.rise-depth.ensures.1),
 )

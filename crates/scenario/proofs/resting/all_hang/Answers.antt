@@ -6,4 +6,4 @@ pub loop-node-init : goal.loop-node-init
 loop-node-init c = sym (hang-none _ _)
 
 pub loop-node-preserved : goal.loop-node-preserved
-loop-node-preserved c = hang-step c.loop-node.node _ _ _ _ _ c.loop-node.invariant c.hangs-on-hung.ensures c.both-all.ensures
+loop-node-preserved c = hang-step c.loop-node.node _ _ _ _ _ c.loop-node.invariant c.hangs_on-hung.ensures c.both-all.ensures

@@ -4,8 +4,8 @@ use Rattle.scan.specs.Parts.{parents_of}
 use Rattle.script.proofs.Taking.{part_none, part-some, tail_none, tail-some, ok-bound}
 use Rattle.script.proofs.lines.next_parents.Goals as goal
 
-pub returns-in-default : goal.returns-in-default
-returns-in-default c = record { value = sym (part_none parents_of expected.Parents c.in-default.ensures.cases.0); after = tail_none c.in-default.ensures.cases.0 c.in-default.ensures.cases.1 }
+pub returns-in_default : goal.returns-in_default
+returns-in_default c = record { value = sym (part_none parents_of expected.Parents c.in_default.ensures.cases.0); after = tail_none c.in_default.ensures.cases.0 c.in_default.ensures.cases.1 }
 
 pub returns : goal.returns
-returns c = record { value = part-some parents_of expected.Parents c.in-Some.ensures.cases c.parents.ensures c.ok-or.ensures.value; after = tail-some c.in-Some.ensures.cases }
+returns c = record { value = part-some parents_of expected.Parents c.in-Some.ensures.cases c.parents.ensures c.ok_or.ensures.value; after = tail-some c.in-Some.ensures.cases }

@@ -13,12 +13,12 @@ loop-n-init c =
 
 pub loop-n-preserved : goal.loop-n-preserved
 loop-n-preserved c =
-    let e = suffix_len-take_yes (is_of Blank) c.args.bytes.now c.loop-n.n 0 (omega arith) (omega arith) (sym c.if-is-of.ensures) in
+    let e = suffix_len-take_yes (is_of Blank) c.args.bytes.now c.loop-n.n 0 (omega arith) (omega arith) (sym c.if-is_of.ensures) in
     (omega arith, omega arith)
 
-pub returns-else-is-of : goal.returns-else-is-of
-returns-else-is-of c =
-    let e = suffix_len-take_no (is_of Blank) c.args.bytes.now c.loop-n.n 0 (omega arith) (omega arith) (sym c.if-is-of.ensures) in
+pub returns-else-is_of : goal.returns-else-is_of
+returns-else-is_of c =
+    let e = suffix_len-take_no (is_of Blank) c.args.bytes.now c.loop-n.n 0 (omega arith) (omega arith) (sym c.if-is_of.ensures) in
     record { value = omega arith; within = omega arith }
 
 pub returns-after-loop-n : goal.returns-after-loop-n

@@ -5,4 +5,4 @@ use Rattle.sets.proofs.mask.from_bytes.Goals as goal
 
 pub returns : goal.returns
 unfolding number_of
-returns c = let e : c.from-be-bytes.result ≡ number_of c.args.bytes = omega arith in record { whole = e; members = λ k h. ap (λ n. has n k) e ∙ has-number c.args.bytes k (record { many = search rules; small = λ i l. search rules }) h }
+returns c = let e : c.from_be_bytes.result ≡ number_of c.args.bytes = omega arith in record { whole = e; members = λ k h. ap (λ n. has n k) e ∙ has-number c.args.bytes k (record { many = search rules; small = λ i l. search rules }) h }

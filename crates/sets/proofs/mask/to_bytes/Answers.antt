@@ -6,5 +6,5 @@ use Rattle.sets.proofs.mask.to_bytes.Goals as goal
 pub returns : goal.returns
 unfolding bytes_of
 returns c =
-    let e : c.to-be-bytes.result ≡ bytes_of c.args.mask = simp div-one c.to-be-bytes.ensures in
+    let e : c.to_be_bytes.result ≡ bytes_of c.args.mask = simp div-one c.to_be_bytes.ensures in
     record { whole = e; members = λ k h. ap (λ bs. has_byte bs k) e ∙ has-bytes c.args.mask k h }

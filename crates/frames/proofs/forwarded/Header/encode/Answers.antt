@@ -3,4 +3,4 @@ use Rattle.wire.proofs.Appended.{carried}
 use Rattle.frames.proofs.forwarded.Header.encode.Goals as goal
 
 pub returns : goal.returns
-returns c = carried (vec_items c.args.out.now) (is_ok c.append-summed.result) c.head.ensures refl c.append-summed.ensures
+returns c = carried (vec_items c.args.out.now) (is_ok c.append_summed.result) c.head.ensures refl c.append_summed.ensures

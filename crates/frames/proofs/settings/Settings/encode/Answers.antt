@@ -8,7 +8,7 @@ pub returns : goal.returns
 returns c =
     let vs = c.args.self.vlans in
     let n = c.args.self.ports in
-    let e : c.split-at.result.0.now ≡ in_twos vs n =
-    c.split-at.ensures.front ∙ ap (take (2 * n)) c.vlan-bytes-cells.ensures
+    let e : c.split_at.result.0.now ≡ in_twos vs n =
+    c.split_at.ensures.front ∙ ap (take (2 * n)) c.vlan_bytes-cells.ensures
     ∙ take-pairs (λ k. get_or vs k 0 / 256 % 256) (λ k. get_or vs k 0 % 256) 0 16 n c.args.self.room in
     carried-two (vec_items c.args.out.now) (is_ok c.append.result) c.head.ensures e c.append.ensures

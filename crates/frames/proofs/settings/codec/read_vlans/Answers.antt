@@ -11,5 +11,5 @@ returns-then-vlan-gt4094 c = vlans-bad c.args.bytes.now c.args.ports c.loop-port
 pub loop-port-preserved : goal.loop-port-preserved
 loop-port-preserved c =
     let inv = c.loop-port.invariant in
-    vlans-more c.args.bytes.now c.loop-port.vlans c.loop-port.port c.from-be-bytes-vlan.result inv.0 (omega arith)
-    c.from-be-bytes-vlan.ensures (omega arith) inv.1 inv.2
+    vlans-more c.args.bytes.now c.loop-port.vlans c.loop-port.port c.from_be_bytes-vlan.result inv.0 (omega arith)
+    c.from_be_bytes-vlan.ensures (omega arith) inv.1 inv.2

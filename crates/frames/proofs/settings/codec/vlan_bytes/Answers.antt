@@ -8,7 +8,7 @@ loop-port-preserved c =
     let k = c.loop-port.port in
     let inv = c.loop-port.invariant in
     pair-more c.loop-port.cells (λ k. get_or vs k 0 / 256 % 256) (λ k. get_or vs k 0 % 256) 16 k k _ _ inv.0 c.loop-port-test.true refl
-    (ap (λ l. get_or l 0 0) c.to-be-bytes.ensures) (ap (λ l. get_or l 1 0) c.to-be-bytes.ensures) inv.1 inv.2
+    (ap (λ l. get_or l 0 0) c.to_be_bytes.ensures) (ap (λ l. get_or l 1 0) c.to_be_bytes.ensures) inv.1 inv.2
 
 pub returns : goal.returns
 returns c =

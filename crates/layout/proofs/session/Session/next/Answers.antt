@@ -7,34 +7,34 @@ use Rattle.script.specs.Grammar.{thus, command_of}
 use Rattle.layout.specs.Net.{state_of, applied}
 use Rattle.layout.proofs.session.Session.next.Goals as goal
 
-pub returns-then-is-empty : goal.returns-then-is-empty
+pub returns-then-is-empty : goal.returns-then-is_empty
 returns-then-is-empty c =
-    let none = nil_from_length _ (true-eqb _ 0 c.if-is-empty.ensures) in
+    let none = nil_from_length _ (true-eqb _ 0 c.if-is_empty.ensures) in
     record { reads = (none, none, refl, refl); shorter = λ h. absurd (let z : ◌≡◌ {A = ℕ} 0 1 = cc in omega arith) }
 
 pub returns-in-Ok : goal.returns-in-Ok
 returns-in-Ok c =
     let told = c.in-Ok.ensures in
-    let some = false-eqb _ 0 c.if-is-empty.ensures in
+    let some = false-eqb _ 0 c.if-is_empty.ensures in
     record {
       reads = (
         omega (arith, some),
-        (ap command_of (sym c.first-line-line.ensures) ∙ told.0, told.1),
-        c.saturating-add-self.ensures,
-        c.other-lines-self.ensures,
+        (ap command_of (sym c.first_line-line.ensures) ∙ told.0, told.1),
+        c.saturating_add-self.ensures,
+        c.other_lines-self.ensures,
       );
-      shorter = λ _. omega (arith, some, ap length c.other-lines-self.ensures, length-drop (prefix_len (is_of Line) c.args.self.now.rest.now + 1) c.args.self.now.rest.now);
+      shorter = λ _. omega (arith, some, ap length c.other_lines-self.ensures, length-drop (prefix_len (is_of Line) c.args.self.now.rest.now + 1) c.args.self.now.rest.now);
     }
 
 pub returns-in-Err : goal.returns-in-Err
 returns-in-Err c =
     let told = c.in-Err.ensures in
-    let some = false-eqb _ 0 c.if-is-empty.ensures in
+    let some = false-eqb _ 0 c.if-is_empty.ensures in
     record {
       reads = (
         omega (arith, some),
-        (ap (λ l. thus (command_of l) (λ x. applied (state_of c.args.self.now.layout) x)) (sym c.first-line-line.ensures) ∙ told.0, told.1),
-        c.saturating-add-self.ensures,
+        (ap (λ l. thus (command_of l) (λ x. applied (state_of c.args.self.now.layout) x)) (sym c.first_line-line.ensures) ∙ told.0, told.1),
+        c.saturating_add-self.ensures,
         refl,
         refl,
       );

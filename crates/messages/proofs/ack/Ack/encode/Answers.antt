@@ -7,6 +7,6 @@ use Rattle.messages.proofs.ack.Ack.encode.Goals as goal
 pub returns-in-LinkState : goal.returns-in-LinkState
 returns-in-LinkState c =
     let v = vec_items c.args.out.now in
-    let ok = is_ok c.append-summed.result in
-    carried v ok c.head.ensures c.link-state-bytes-named.ensures c.append-summed.ensures
+    let ok = is_ok c.append_summed.result in
+    carried v ok c.head.ensures c.link_state_bytes-named.ensures c.append_summed.ensures
     ∙ ap (λ k. cond ok (v ++ with_sum (acked_bytes c.args.self.incarnation k)) v) (sym c.in-LinkState.is)

@@ -6,8 +6,11 @@ use Rattle.rows.proofs.row.Row.push.Goals as goal
 
 pub returns : goal.returns
 returns c =
-    let within : c.behind-last-place.result < length c.args.self.now.slots.items = omega (arith, c.args.self.now.slots.ok.0) in
-    let some : is_some c.get-mut.result ≡ true = c.get-mut.ensures.item.2 (simp length-set within) in (
-      (refl, (λ w _. slots-push _ _ _ _ _ w (omega (arith, c.args.self.now.slots.ok.0)) (omega arith) c.behind-last-place.ensures), (λ none. never-none _ some none)),
-      (rw length-frames (grind (arith, nat_tests, some)), lent-empty c.get-mut.result _ _ _ within c.clear.ensures c.get-mut.ensures.item.1),
+    let within : c.behind_last-place.result < length c.args.self.now.slots.items = omega (arith, c.args.self.now.slots.ok.0) in
+    let some : is_some c.get_mut.result ≡ true = c.get_mut.ensures.item.2 (simp length-set within) in (
+      (refl, (λ w _. slots-push _ _ _ _ _ w (omega (arith, c.args.self.now.slots.ok.0)) (omega arith) c.behind_last-place.ensures), (λ none. never-none _ some none)),
+      record {
+        lent = tt;
+        lent_facts = (rw length-frames (grind (arith, nat_tests, some)), lent-empty c.get_mut.result _ _ _ within c.clear.ensures c.get_mut.ensures.item.1);
+      },
     )
