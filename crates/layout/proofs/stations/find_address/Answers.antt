@@ -7,8 +7,8 @@ loop-i-preserved c =
     let e = address_more c.args.address.now c.args.stations.now c.loop-i.i c.index-stations-i.result c.loop-i-test.true c.index-stations-i.is c.if-not-lives_at.ensures in
     (omega arith, omega arith)
 
-pub returns-else-not-lives-at : goal.returns-else-not-lives_at
-returns-else-not-lives-at c =
+pub returns-else-not-lives_at : goal.returns-else-not-lives_at
+returns-else-not-lives_at c =
     let e = address-here c.args.address.now c.args.stations.now c.loop-i.i c.index-stations-i.result c.loop-i-test.true c.index-stations-i.is c.if-not-lives_at.ensures in
     record { value = omega arith; within = omega arith }
 

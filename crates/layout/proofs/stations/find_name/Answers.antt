@@ -7,8 +7,8 @@ loop-i-preserved c =
     let e = name-more c.args.name.now c.args.stations.now c.loop-i.i c.index-stations-i.result c.loop-i-test.true c.index-stations-i.is c.if-not-is_named.ensures in
     (omega arith, omega arith)
 
-pub returns-else-not-is-named : goal.returns-else-not-is_named
-returns-else-not-is-named c =
+pub returns-else-not-is_named : goal.returns-else-not-is_named
+returns-else-not-is_named c =
     let e = name-here c.args.name.now c.args.stations.now c.loop-i.i c.index-stations-i.result c.loop-i-test.true c.index-stations-i.is c.if-not-is_named.ensures in
     record { value = omega arith; within = omega arith }
 

@@ -7,8 +7,8 @@ use Rattle.script.specs.Grammar.{thus, command_of}
 use Rattle.layout.specs.Net.{state_of, applied}
 use Rattle.layout.proofs.session.Session.next.Goals as goal
 
-pub returns-then-is-empty : goal.returns-then-is_empty
-returns-then-is-empty c =
+pub returns-then-is_empty : goal.returns-then-is_empty
+returns-then-is_empty c =
     let none = nil_from_length _ (true-eqb _ 0 c.if-is_empty.ensures) in
     record { reads = (none, none, refl, refl); shorter = λ h. absurd (let z : ◌≡◌ {A = ℕ} 0 1 = cc in omega arith) }
 

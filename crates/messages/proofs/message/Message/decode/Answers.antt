@@ -3,6 +3,6 @@ use Rattle.messages.specs.Messages.{kind_of}
 use Rattle.messages.proofs.Others.{other-kind}
 use Rattle.messages.proofs.message.Message.decode.Goals as goal
 
-pub returns-in-default : goal.returns-in-default
-returns-in-default c =
+pub returns-in_default : goal.returns-in_default
+returns-in_default c =
     other-kind (kind_of c.args.bytes.now) _ _ _ _ _ _ (λ q. omega arith) (λ q. omega arith) (λ q. omega arith) (λ q. omega arith) (λ q. omega arith)

@@ -10,21 +10,21 @@ returns-in-Some c = second (waits c.args.self.now) _ (grind (arith, nat_tests)) 
 
 pub returns-in-Some-first : goal.returns-in-Some-first
 returns-in-Some-first c =
-    third (waits c.args.self.now) _ (grind (arith, nat_tests)) (table_none AckLinkState _ c.in-default.ensures)
+    third (waits c.args.self.now) _ (grind (arith, nat_tests)) (table_none AckLinkState _ c.in_default.ensures)
     (table-first AckTree _ _ _ c.in-Some-first.ack.announcer.ok c.in-Some-first.ensures)
 
 pub returns-in-Some-first-2 : goal.returns-in-Some-first-2
 returns-in-Some-first-2 c =
-    fourth (waits c.args.self.now) _ (grind (arith, nat_tests)) (table_none AckLinkState _ c.in-default.ensures) (table_none AckTree _ c.in-default-first.ensures)
+    fourth (waits c.args.self.now) _ (grind (arith, nat_tests)) (table_none AckLinkState _ c.in_default.ensures) (table_none AckTree _ c.in_default-first.ensures)
     (set_first LinkState _ _ c.in-Some-first-2.bridge.ok c.in-Some-first-2.ensures.0 c.in-Some-first-2.ensures.1)
 
-pub returns-in-err-announcer : goal.returns-in-err-announcer
-returns-in-err-announcer c =
-    ap (option_map message_of) c.from-residual.ensures
-    ∙ fifth (waits c.args.self.now) _ (grind (arith, nat_tests)) (table_none AckLinkState _ c.in-default.ensures) (table_none AckTree _ c.in-default-first.ensures)
-    (set-none LinkState _ c.in-default-first-2.ensures) (set-none Tree _ c.in-err-announcer.ensures)
+pub returns-in_err-announcer : goal.returns-in_err-announcer
+returns-in_err-announcer c =
+    ap (option_map message_of) c.from_residual.ensures
+    ∙ fifth (waits c.args.self.now) _ (grind (arith, nat_tests)) (table_none AckLinkState _ c.in_default.ensures) (table_none AckTree _ c.in_default-first.ensures)
+    (set-none LinkState _ c.in_default-first-2.ensures) (set-none Tree _ c.in_err-announcer.ensures)
 
 pub returns : goal.returns
 returns c =
-    fifth (waits c.args.self.now) _ (grind (arith, nat_tests)) (table_none AckLinkState _ c.in-default.ensures) (table_none AckTree _ c.in-default-first.ensures)
-    (set-none LinkState _ c.in-default-first-2.ensures) (set_first Tree _ _ c.in-ok-announcer.announcer.ok c.in-ok-announcer.ensures.0 c.in-ok-announcer.ensures.1)
+    fifth (waits c.args.self.now) _ (grind (arith, nat_tests)) (table_none AckLinkState _ c.in_default.ensures) (table_none AckTree _ c.in_default-first.ensures)
+    (set-none LinkState _ c.in_default-first-2.ensures) (set_first Tree _ _ c.in_ok-announcer.announcer.ok c.in_ok-announcer.ensures.0 c.in_ok-announcer.ensures.1)

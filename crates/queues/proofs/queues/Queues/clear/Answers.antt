@@ -5,7 +5,7 @@ use Rattle.queues.proofs.queues.Queues.clear.Goals as goal
 
 pub returns-then-port-lt-PORTS : goal.returns-then-port-lt-PORTS
 returns-then-port-lt-PORTS c =
-    port-set c.args.self.now.ports.items c.args.port c.index-mut.result.now _ emptied (omega (arith, c.args.self.now.ports.ok.0)) c.index-mut.ensures.value
+    port-set c.args.self.now.ports.items c.args.port c.index_mut.result.now _ emptied (omega (arith, c.args.self.now.ports.ok.0)) c.index_mut.ensures.value
     c.clear.ensures
 
 pub returns-else-port-lt-PORTS : goal.returns-else-port-lt-PORTS

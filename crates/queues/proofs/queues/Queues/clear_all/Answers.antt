@@ -7,8 +7,8 @@ use Rattle.queues.proofs.queues.Queues.clear_all.Goals as goal
 
 pub loop-port-preserved : goal.loop-port-preserved
 loop-port-preserved c =
-    port-more emptied (ports_of c.args.self.now) c.loop-port.self.ports.items c.loop-port.port c.index-mut.result.now _
-    (omega (arith, c.loop-port.self.ports.ok.0)) (simp length-map (omega (arith, c.loop-port.self.ports.ok.0, c.args.self.now.ports.ok.0))) c.index-mut.ensures.value
+    port-more emptied (ports_of c.args.self.now) c.loop-port.self.ports.items c.loop-port.port c.index_mut.result.now _
+    (omega (arith, c.loop-port.self.ports.ok.0)) (simp length-map (omega (arith, c.loop-port.self.ports.ok.0, c.args.self.now.ports.ok.0))) c.index_mut.ensures.value
     c.clear.ensures c.loop-port.invariant
 
 pub returns : goal.returns

@@ -4,4 +4,4 @@ use Rattle.queues.proofs.Ports.{port-push}
 use Rattle.queues.proofs.queues.Queues.new.Goals as goal
 
 pub loop-i-preserved : goal.loop-i-preserved
-loop-i-preserved c = (search rules, search rules, ap (map port_of) c.push_reserved.ensures.items ∙ port-push _ _ _ c.loop-i.invariant.2 c.in-ok-new.ensures)
+loop-i-preserved c = (search rules, search rules, ap (map port_of) c.push_reserved.ensures.items ∙ port-push _ _ _ c.loop-i.invariant.2 c.in_ok-new.ensures)

@@ -7,13 +7,13 @@ use Rattle.queues.proofs.queues.Queues.place.Goals as goal
 
 pub returns : goal.returns
 returns c =
-    let q : Port = port_of c.index-mut.result.now in (
+    let q : Port = port_of c.index_mut.result.now in (
       (
         refl,
-        (λ w some. port-set c.args.self.now.ports.items c.args.port c.index-mut.result.now _ (with_frame (frame w)) (omega (arith, c.args.self.now.ports.ok.0)) c.index-mut.ensures.value
+        (λ w some. port-set c.args.self.now.ports.items c.args.port c.index_mut.result.now _ (with_frame (frame w)) (omega (arith, c.args.self.now.ports.ok.0)) c.index_mut.ensures.value
             (ap (λ v. record { control = q.control; frames = v; sent = q.sent }) (c.push.follows.holds w some))),
-        (λ none. port-same c.args.self.now.ports.items c.args.port c.index-mut.result.now _ (omega (arith, c.args.self.now.ports.ok.0)) c.index-mut.ensures.value
+        (λ none. port-same c.args.self.now.ports.items c.args.port c.index_mut.result.now _ (omega (arith, c.args.self.now.ports.ok.0)) c.index_mut.ensures.value
             (ap (λ r. record { control = q.control; frames = waiting r; sent = q.sent }) (c.push.follows.holds-at-none none))),
       ),
-      (c.push.ensures.lent.0 ∙ room-at c.args.self.now.ports.items c.args.port c.index-mut.result.now (omega arith) (omega (arith, c.args.self.now.ports.ok.0)) c.index-mut.ensures.value, c.push.ensures.lent.1),
+      (c.push.ensures.lent.0 ∙ room-at c.args.self.now.ports.items c.args.port c.index_mut.result.now (omega arith) (omega (arith, c.args.self.now.ports.ok.0)) c.index_mut.ensures.value, c.push.ensures.lent.1),
     )

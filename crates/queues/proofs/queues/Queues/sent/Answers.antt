@@ -13,6 +13,6 @@ returns-else-port-lt-PORTS c =
 pub returns-then-port-lt-PORTS : goal.returns-then-port-lt-PORTS
 returns-then-port-lt-PORTS c =
     record {
-      some = c.sent.ensures.some ∙ ap is_some (out-at c.args.self.now.ports.items c.args.port c.index-mut.result.now (omega arith) (omega (arith, c.args.self.now.ports.ok.0)) c.index-mut.ensures.value);
-      after = port-set c.args.self.now.ports.items c.args.port c.index-mut.result.now _ after_out (omega (arith, c.args.self.now.ports.ok.0)) c.index-mut.ensures.value c.sent.ensures.after;
+      some = c.sent.ensures.some ∙ ap is_some (out-at c.args.self.now.ports.items c.args.port c.index_mut.result.now (omega arith) (omega (arith, c.args.self.now.ports.ok.0)) c.index_mut.ensures.value);
+      after = port-set c.args.self.now.ports.items c.args.port c.index_mut.result.now _ after_out (omega (arith, c.args.self.now.ports.ok.0)) c.index_mut.ensures.value c.sent.ensures.after;
     }

@@ -7,8 +7,8 @@ use Rattle.queues.proofs.queues.Queues.tick.Goals as goal
 
 pub loop-i-preserved : goal.loop-i-preserved
 loop-i-preserved c =
-    port-more refilled (ports_of c.args.self.now) c.loop-i.self.ports.items c.loop-i.i c.index-mut.result.now _
-    (omega (arith, c.loop-i.self.ports.ok.0)) (simp length-map (omega (arith, c.loop-i.self.ports.ok.0, c.args.self.now.ports.ok.0))) c.index-mut.ensures.value
+    port-more refilled (ports_of c.args.self.now) c.loop-i.self.ports.items c.loop-i.i c.index_mut.result.now _
+    (omega (arith, c.loop-i.self.ports.ok.0)) (simp length-map (omega (arith, c.loop-i.self.ports.ok.0, c.args.self.now.ports.ok.0))) c.index_mut.ensures.value
     c.tick.ensures c.loop-i.invariant
 
 pub returns : goal.returns
