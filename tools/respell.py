@@ -21,6 +21,7 @@ CHARS = r"[^\s(){}\[\]:,.;λ\"`|]"
 # Names of one crate that would fall together with another there by the rules alone. A lemma that has its function's name gets `_lem`.
 OWN = {
     "wire_laws": {"in_two": "in_two_lem", "in_three": "in_three_lem", "in_four": "in_four_lem"},
+    "network": {"is-tree": "is_tree_lem"},
     "ports": {"none_below": "none_below_lem"},
     "bridges": {"not_back": "not_back_lem", "none_of": "none_of_lem", "send_by": "send_by_lem"},
     "pending": {"linkAcks": "link_acks_of", "treeAcks": "tree_acks_of"},

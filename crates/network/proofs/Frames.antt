@@ -96,8 +96,8 @@ heard-older m true false f s p r h k = absurd (grind arith)
 heard-older m false true f s p r h k = absurd (grind arith)
 heard-older m false false f s p r h k = refl
 
-pub is_tree : (u : ℕ) (tree : Found) (t : Tree) → tree ≡ This t → is_tree u tree ≡ eqb u t.number
-is_tree u tree t h = subst (λ f. is_tree u f ≡ eqb u t.number) (sym h) (flip t.number u)
+pub is_tree_lem : (u : ℕ) (tree : Found) (t : Tree) → tree ≡ This t → is_tree u tree ≡ eqb u t.number
+is_tree_lem u tree t h = subst (λ f. is_tree u f ≡ eqb u t.number) (sym h) (flip t.number u)
   where
     flip : (a b : ℕ) → eqb a b ≡ eqb b a
     flip a b = grind (arith, nat_tests)
@@ -136,7 +136,7 @@ module _ (n : Network) (w : World) (x : Copy) (t : Tree) (came : Came) (tick : �
   bridge = n.bridge x.at
 
   is-its : (u : ℕ) (tree : Found) → tree ≡ This t → is_tree u tree ≡ eqb u x.frame.tree
-  is-its u tree h = is_tree u tree t h ∙ ap (eqb u) along
+  is-its u tree h = is_tree_lem u tree t h ∙ ap (eqb u) along
 
   its : (tree : Found) → tree ≡ This t → is_tree x.frame.tree tree ≡ true
   its tree h = is-its x.frame.tree tree h ∙ eq-eqb x.frame.tree x.frame.tree refl

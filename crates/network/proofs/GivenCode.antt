@@ -62,7 +62,7 @@ use Rattle.network.proofs.Worlds.{relearnt, forgot_in}
 use Rattle.network.proofs.Learning.{with_tables, gone_from, gone-told, tables-fade}
 use Rattle.network.proofs.Changes.{adopts-holds}
 use Rattle.network.proofs.Arriving.{holds-either, tree-of}
-use Rattle.network.proofs.Frames.{is_tree, place-came, entry, noted, noted-newest, noted-older}
+use Rattle.network.proofs.Frames.{is_tree_lem, place-came, entry, noted, noted-newest, noted-older}
 
 -- a bridge: its memory, its links, and who is here
 record Local : Type 0 where
@@ -233,7 +233,7 @@ module _ (x : Copy) (l : Local) (w : World) (i : Stands Local (view x.at) x.at l
       (λ v. where_is x.at (plug x.at) (cond v (sender (came x.trail)) (place_in l.memory u q)) ≡ cond v (came_by x.trail) (w.learned x.at u q)) (λ _. came-so x.at x.trail) (λ _. i.learned_so u q))
 
   its : (tree : Found) → is_tree x.frame.tree tree ≡ true → (u : ℕ) → is_tree u tree ≡ eqb u x.frame.tree
-  its tree h u = let a = tree-of x.frame.tree tree h in is_tree u tree a.0 a.1 ∙ ap (eqb u) a.2
+  its tree h u = let a = tree-of x.frame.tree tree h in is_tree_lem u tree a.0 a.1 ∙ ap (eqb u) a.2
 
   abbrev Handled : State → World → Type 0
   Handled s u = (o : none s.newest.tree ≡ true → none s.older.tree ≡ true) → (fs : List Ev) × T (only_forgets x.at fs) × Stands Local (view x.at) x.at (remember l s o) (steps rules fs u)
@@ -350,7 +350,7 @@ does b (Falls c) l = cond (eqb c b) (remember l (crashed l.memory) (λ _. refl))
 
 forget-look : (n q : ℕ) (slot : Slot) (t r : ℕ) → is_tree t slot.tree ≡ true → look (forget_table n q slot).entries r ≡ cond (eqb t n && eqb r q) Nowhere (look_in slot r)
 forget-look n q slot t r h = let a = tree-of t slot.tree h in
-    rw (is_tree n slot.tree a.0 a.1 ∙ (ap (eqb n) a.2 ∙ flip n t)) (by-test (eqb t n) (λ v. look (cond v (without q slot.table.entries) slot.table.entries) r ≡ cond (v && eqb r q) Nowhere (look_in slot r))
+    rw (is_tree_lem n slot.tree a.0 a.1 ∙ (ap (eqb n) a.2 ∙ flip n t)) (by-test (eqb t n) (λ v. look (cond v (without q slot.table.entries) slot.table.entries) r ≡ cond (v && eqb r q) Nowhere (look_in slot r))
     (λ _. look-without q slot.table.entries r) (λ _. refl))
   where
     flip : (a b : ℕ) → eqb a b ≡ eqb b a

@@ -7,5 +7,8 @@ use Rattle.queues.proofs.queues.Queues.pending.Goals as goal
 pub returns : goal.returns
 returns c = (
   (refl, (λ w _. port-set c.args.self.now.ports.items c.args.port c.index_mut.result.now _ (with_control (waits w)) (omega (arith, c.args.self.now.ports.ok.0)) c.index_mut.ensures.value refl), (λ _. refl)),
-  (sym (lt-ltb c.args.port 16 (omega arith)), ap (λ (p : Port). p.control) (sym (port-at c.args.self.now.ports.items c.args.port c.index_mut.result.now (omega (arith, c.args.self.now.ports.ok.0)) c.index_mut.ensures.value))),
+  record {
+    lent = tt;
+    lent_facts = (sym (lt-ltb c.args.port 16 (omega arith)), ap (λ (p : Port). p.control) (sym (port-at c.args.self.now.ports.items c.args.port c.index_mut.result.now (omega (arith, c.args.self.now.ports.ok.0)) c.index_mut.ensures.value)));
+  },
 )

@@ -15,5 +15,8 @@ returns c =
         (λ none. port-same c.args.self.now.ports.items c.args.port c.index_mut.result.now _ (omega (arith, c.args.self.now.ports.ok.0)) c.index_mut.ensures.value
             (ap (λ r. record { control = q.control; frames = waiting r; sent = q.sent }) (c.push.follows.holds-at-none none))),
       ),
-      (c.push.ensures.lent.0 ∙ room-at c.args.self.now.ports.items c.args.port c.index_mut.result.now (omega arith) (omega (arith, c.args.self.now.ports.ok.0)) c.index_mut.ensures.value, c.push.ensures.lent.1),
+      record {
+        lent = tt;
+        lent_facts = (c.push.ensures.lent_facts.0 ∙ room-at c.args.self.now.ports.items c.args.port c.index_mut.result.now (omega arith) (omega (arith, c.args.self.now.ports.ok.0)) c.index_mut.ensures.value, c.push.ensures.lent_facts.1);
+      },
     )
