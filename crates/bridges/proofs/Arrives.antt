@@ -6,8 +6,8 @@ use mathlib.Core.List.{Memᴰ}
 use native.Mathlib.Decide.{ℕ_discrete, dec_lt}
 use Rattle.std.proofs.lemmas.Bool.Decides.{nat_tests}
 use Rattle.std.proofs.lemmas.Bool.{cond_both, and_parts, and_from, and_left, not-true, eqb-true, eq-eqb, ne_eqb, both_ways}
-use Rattle.trees.specs.Tree.{Tree, looks, joined, Walk, here, on, is_in, all_below}
-use Rattle.bridges.specs.Net.{Frame, Copy, Where, Unknown, Here, Behind, Got, Rules, World, NoTree, This, at, tree_of, not_back, copy_to, toward, knows, without, with_copies, send_by}
+use Rattle.trees.specs.Tree.{Tree, looks, joined, Walk, is_in, all_below}
+use Rattle.bridges.specs.Net.{Frame, Copy, Where, Unknown, Here, Behind, Got, Rules, World, NoTree, This, tree_of, not_back, copy_to, toward, knows, without, with_copies, send_by}
 use Rattle.bridges.specs.Fabric.{Event, Send, Arrive, Lose, Believe, Announce, Adopt, Move, Forget, Crash, Turn, goes_by, may_hand, handed, forward, happen, run}
 use Rattle.trees.proofs.Under.{Under}
 use Rattle.trees.proofs.Simple.{below-1, below-2}

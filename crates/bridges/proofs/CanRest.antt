@@ -1,11 +1,11 @@
 -- Wherever links that are up join all bridges, one tree announced and adopted by each brings rest. Assumes nothing.
-use Rattle.std.proofs.Common.{◌≡◌, ℕ, zero, suc, ◌+◌, ◌<◌, ◌≤◌, Bool, true, false, cond, not, ◌&&◌, ◌||◌, T, eqb, ltb, ◌⊎◌, List, [], ◌∷◌, ◌++◌, length, sym, refl, ap, ◌∙◌, subst, inl, inr, arith}
+use Rattle.std.proofs.Common.{◌≡◌, ℕ, zero, suc, ◌+◌, ◌<◌, ◌≤◌, Bool, true, not, ◌&&◌, ◌||◌, T, eqb, List, [], ◌∷◌, ◌++◌, length, sym, refl, ap, subst, arith}
 use Rattle.std.proofs.lemmas.Bool.Decides.{nat_tests}
-use Rattle.std.proofs.lemmas.Bool.{cond_both, or_parts, or_cases, not-false, not-true, both_ways, eqb-true}
-use Rattle.trees.specs.Tree.{Tree, looks, joined, is_in}
+use Rattle.std.proofs.lemmas.Bool.{cond_both, both_ways, eqb-true}
+use Rattle.trees.specs.Tree.{Tree, looks}
 use Rattle.bridges.specs.Net.{Rules, World, Found, NoTree, This, tree_of, two, at, announce_if}
-use Rattle.bridges.specs.Promise.{Rests, Linked, zeroth, over, top_way}
-use Rattle.bridges.specs.Fabric.{Event, Send, Arrive, Lose, Believe, Announce, Adopt, Move, Forget, Crash, run, happen, adopt_if, is_newest}
+use Rattle.bridges.specs.Promise.{Rests, Linked, zeroth, over}
+use Rattle.bridges.specs.Fabric.{Event, Announce, Adopt, run, happen, adopt_if, is_newest}
 use Rattle.bridges.specs.Guarantee.{only_trees}
 use Rattle.bridges.proofs.Spanning as Sp
 

@@ -1,12 +1,12 @@
 -- What each kind of event does, by cases: one lemma for each place where an event looks something up. Assumes nothing.
-use Rattle.std.proofs.Common.{◌≡◌, ℕ, zero, suc, ◌<◌, Bool, true, false, not, ◌&&◌, ◌||◌, eqb, ltb, ◌⊎◌, List, [], ◌∷◌, sym, refl, subst, inl, inr, arith}
+use Rattle.std.proofs.Common.{◌≡◌, ℕ, zero, suc, ◌<◌, Bool, true, false, ◌&&◌, ◌||◌, eqb, ltb, ◌⊎◌, List, [], ◌∷◌, sym, refl, subst, inl, inr, arith}
 use mathlib.Core.List.Memᴰ
 use mathlib.Core.List.{Memᴰ}
 use Rattle.std.proofs.lemmas.Bool.Decides.{nat_tests}
 use Rattle.std.proofs.lemmas.Bool.{cond_both}
-use Rattle.trees.specs.Tree.{Tree, looks, joined, on, is_in}
+use Rattle.trees.specs.Tree.{Tree, looks, joined, is_in}
 use Rattle.bridges.specs.Net.{Copy, Where, Unknown, Behind, Rules, World, Found, NoTree, This, at, at3, tree_of, came_by, not_back, copy_to, floods, toward, without, two, send_by, announce_if}
-use Rattle.bridges.specs.Fabric.{Send, Forget, Crash, goes_by, handed, forward, receive, arrives, adopt_if, happen}
+use Rattle.bridges.specs.Fabric.{Send, Forget, Crash, goes_by, forward, receive, arrives, adopt_if, happen}
 
 -- the copy at a place of a list
 pub data Pick (x : Copy) : ℕ → List Copy → Type 0 where

@@ -3,7 +3,7 @@ use Rattle.std.proofs.Common.{◌≡◌, ℕ, zero, suc, ◌+◌, ◌<◌, ◌�
 use mathlib.Core.List.{Memᴰ}
 use native.Mathlib.Decide.{ℕ_discrete}
 use Rattle.trees.specs.Tree.{Tree, joined}
-use Rattle.bridges.specs.Net.{Copy, Where, Got, Rules, World, at, not_back, copy_to, floods, without}
+use Rattle.bridges.specs.Net.{Copy, Where, Got, Rules, World, not_back, copy_to, floods, without}
 use Rattle.bridges.specs.Fabric.{may_hand, handed}
 use Rattle.bridges.proofs.Changes.{Pick, now, later}
 

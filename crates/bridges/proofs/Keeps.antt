@@ -7,7 +7,7 @@ use native.Mathlib.Decide.{ℕ_discrete}
 use Rattle.std.proofs.lemmas.Bool.Decides.{nat_tests}
 use Rattle.std.proofs.lemmas.Bool.{cond_both, ne_eqb}
 use Rattle.trees.specs.Tree.{Tree, looks, joined, Walk, here, first, on, is_in, all_below}
-use Rattle.bridges.specs.Net.{Copy, Where, Unknown, Here, Behind, Got, Rules, World, NoTree, This, at, tree_of, came_by, not_back, copy_to, floods, toward, knows, learns, without, with_copies, two, send_by}
+use Rattle.bridges.specs.Net.{Copy, Where, Unknown, Here, Behind, Got, Rules, World, NoTree, This, tree_of, came_by, not_back, copy_to, floods, toward, knows, learns, without, with_copies, two, send_by}
 use Rattle.bridges.specs.Fabric.{Event, Send, Arrive, Lose, Believe, Announce, Adopt, Move, Forget, Crash, Turn, goes_by, may_hand, handed, forward, turned, happen, run}
 use Rattle.trees.proofs.Simple.{below-2}
 use Rattle.bridges.proofs.Changes.{at3-tells, forget-tells, crash-tells, goes-tells, not-back-is, floods-tells, toward-tells, pick-mem, without-mem, arrive-by, announce-by, adopt-by, send_by_lem}

@@ -6,7 +6,7 @@ use mathlib.Core.List.{Memᴰ}
 use Rattle.std.proofs.lemmas.Bool.Decides.{nat_tests}
 use Rattle.std.proofs.lemmas.Bool.{cond_both, and_parts, and_from, not-true, eq-eqb}
 use Rattle.trees.specs.Tree.{Tree, looks, joined, Walk, all_below}
-use Rattle.bridges.specs.Net.{Copy, Where, Unknown, Here, Behind, Rules, World, Found, NoTree, This, at, tree_of, came_by, toward, knows, without, with_copies, send_by, announce_if}
+use Rattle.bridges.specs.Net.{Copy, Where, Unknown, Here, Behind, Rules, World, Found, NoTree, This, tree_of, came_by, toward, knows, without, with_copies, send_by, announce_if}
 use Rattle.bridges.specs.Fabric.{Event, Send, Arrive, Lose, Believe, Announce, Adopt, Move, Forget, Crash, Turn, goes_by, forward, turned, happen, run}
 use Rattle.trees.proofs.Under.{Under}
 use Rattle.trees.proofs.Simple.{AllUnder, NoneUnder, also, Way, rose, fell, way, below-1, below-2}

@@ -1,71 +1,13 @@
 -- What is promised of Fabric for both values of `lax` gives what is promised of Net: a run of Net is one of Fabric with
 -- `lax`, in which a link that comes or goes is two beliefs. Assumes nothing.
-use Rattle.std.proofs.Common.{◌≡◌, ℕ, zero, suc, ◌+◌, ◌<◌, ◌≤◌, Bool, true, false, cond, not, ◌&&◌, ◌||◌, T, eqb, ltb, ◌⊎◌, List, [], ◌∷◌, ◌++◌, length, sym, refl, ap, ◌∙◌, subst, inl, inr, arith}
+use Rattle.std.proofs.Common.{◌≡◌, ℕ, zero, suc, ◌<◌, ◌≤◌, Bool, true, false, cond, not, ◌||◌, T, List, [], ◌∷◌, ◌++◌, length, sym, refl, ap, ◌∙◌, subst, arith}
 use mathlib.Core.List.{Memᴰ}
 use Rattle.std.proofs.lemmas.Bool.Decides.{nat_tests}
-use Rattle.std.proofs.lemmas.Bool.{cond_both}
-use Rattle.trees.specs.Tree.{Tree, looks, joined, is_in, different}
-use Rattle.bridges.specs.Net.{
-  Frame,
-  Copy,
-  Where,
-  Unknown,
-  Here,
-  Behind,
-  Got,
-  Rules,
-  World,
-  Found,
-  NoTree,
-  This,
-  tree_of,
-  toward,
-  may_get,
-  gets,
-  knows,
-  learns,
-  handle,
-  comes,
-  take_if,
-  two,
-  without,
-  with_copies,
-  at,
-  send_by,
-  Ev,
-  Sends,
-  Comes,
-  Lost,
-  Link,
-  Announced,
-  Takes,
-  Moves,
-  Forgets,
-  Falls,
-  step,
-  world,
-}
+use Rattle.trees.specs.Tree.{Tree, looks, is_in}
+use Rattle.bridges.specs.Net.{Copy, Where, Unknown, Got, Rules, World, Found, NoTree, This, tree_of, toward, may_get, gets, knows, learns, handle, comes, take_if, two, without, with_copies, at, Ev, Sends, Comes, Lost, Link, Announced, Takes, Moves, Forgets, Falls, step, world}
 use Rattle.bridges.specs.Promise as P
 use Rattle.bridges.specs.Promise.{Whole, Main, sent_in, moved, only_comes, none_of, count_got, NotWrong, Rests, Linked}
-use Rattle.bridges.specs.Fabric.{
-  Event,
-  Send,
-  Arrive,
-  Lose,
-  Believe,
-  Announce,
-  Adopt,
-  Move,
-  Forget,
-  Crash,
-  Turn,
-  run,
-  happen,
-  handed,
-  receive,
-  arrives,
-  adopt_if,
-}
+use Rattle.bridges.specs.Fabric.{Event, Send, Arrive, Lose, Believe, Announce, Adopt, Move, Forget, Crash, Turn, run, handed, receive, arrives, adopt_if}
 use Rattle.bridges.specs.Guarantee as G
 use Rattle.bridges.specs.Guarantee.{Assured, Guaranteed, sent_by, makes, count_all, stays, moves, remembered, quietly, quiet, origin}
 

@@ -2,7 +2,7 @@
 use Rattle.std.proofs.Common.{◌≡◌, ℕ, zero, suc, ◌<◌, Bool, true, List, [], ◌∷◌, sym, refl, subst, arith}
 use mathlib.Core.List.{Memᴰ}
 use Rattle.trees.specs.Tree.{Tree, looks, Walk, is_in, different, all_below}
-use Rattle.bridges.specs.Net.{Copy, Rules, at}
+use Rattle.bridges.specs.Net.{Copy, Rules}
 use Rattle.bridges.specs.Fabric.{Event, run}
 use Rattle.trees.proofs.Simple.{simple}
 use Rattle.bridges.proofs.Keeps.{keeps}

@@ -1,32 +1,14 @@
 -- The premises of arrival and of what is learnt can be met, all at once. Assumes nothing.
-use Rattle.std.proofs.Common.{◌≡◌, ℕ, zero, suc, ◌+◌, ◌<◌, ◌≤◌, Bool, true, false, cond, not, ◌&&◌, ◌||◌, T, eqb, ltb, ◌⊎◌, List, [], ◌∷◌, ◌++◌, sym, refl, ap, ◌∙◌, subst, inl, inr, arith}
+use Rattle.std.proofs.Common.{◌≡◌, ℕ, zero, suc, ◌<◌, Bool, true, false, not, ◌&&◌, ◌||◌, eqb, List, [], ◌∷◌, ◌++◌, sym, refl, ap, ◌∙◌, subst, arith}
 use mathlib.Core.List.{Memᴰ}
 use Rattle.std.proofs.lemmas.Bool.Decides.{nat_tests}
-use Rattle.std.proofs.lemmas.Bool.{false≢true, eq-eqb, eqb-true}
+use Rattle.std.proofs.lemmas.Bool.{false≢true}
 use Rattle.trees.specs.Tree.{Tree, looks, joined, is_in}
-use Rattle.bridges.specs.Net.{
-  Frame,
-  Copy,
-  Where,
-  Unknown,
-  Here,
-  Behind,
-  Got,
-  Rules,
-  World,
-  Found,
-  NoTree,
-  This,
-  tree_of,
-  floods,
-  without,
-  two,
-  send_by,
-}
+use Rattle.bridges.specs.Net.{Copy, Where, Unknown, Here, Behind, Rules, NoTree, This, tree_of, floods, without, two, send_by}
 use Rattle.bridges.specs.Promise.{NotWrong, Rests, Linked, zeroth, over, on_way, top_way, count_got, none_of}
-use Rattle.bridges.specs.Fabric.{Event, Send, Arrive, Lose, Believe, Announce, Adopt, Move, Forget, Crash, Turn, run, handed, arrives}
+use Rattle.bridges.specs.Fabric.{Event, Send, run, handed, arrives}
 use Rattle.bridges.specs.Guarantee.{Assured, count_all, stays, remembered, is_copy_of, quietly, origin}
-use Rattle.bridges.specs.Cases.{after, ring, tree_of0, tree_of1, cabled}
+use Rattle.bridges.specs.Cases.{after, ring, tree_of0, cabled}
 use Rattle.bridges.specs.Witness.{ArrivesIf, LearntIf, settled, before_send, meanwhile, Met}
 
 -- the records ask what the promise asks: given them, it gives its conclusions

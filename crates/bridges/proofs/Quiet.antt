@@ -5,7 +5,7 @@ use mathlib.Core.List.{Memᴰ}
 use Rattle.std.proofs.lemmas.Bool.Decides.{nat_tests}
 use Rattle.std.proofs.lemmas.Bool.{cond_both, eqb-false}
 use Rattle.trees.specs.Tree.{Tree, joined}
-use Rattle.bridges.specs.Net.{Copy, Where, Unknown, Got, Rules, World, at, came_by, knows, without, with_copies, send_by}
+use Rattle.bridges.specs.Net.{Copy, Where, Unknown, Got, Rules, World, came_by, knows, without, with_copies, send_by}
 use Rattle.bridges.specs.Fabric.{Event, Send, Arrive, Lose, Believe, Announce, Adopt, Move, Forget, Crash, Turn, goes_by, may_hand, handed, turned, happen}
 use Rattle.bridges.specs.Guarantee.{moves, forgets, quiet, is_copy_of}
 use Rattle.bridges.proofs.Changes.{at3-tells, Pick, now, later, pick-mem, arrive-by, announce-by, adopt-by, send_by_lem}

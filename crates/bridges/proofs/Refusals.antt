@@ -1,10 +1,10 @@
 -- An event that is answered by a fault changes nothing, but that the copy which came is gone. Assumes nothing.
-use Rattle.std.proofs.Common.{◌≡◌, ℕ, zero, suc, Bool, true, false, cond, not, ◌&&◌, ◌||◌, eqb, ltb, List, [], ◌∷◌, sym, refl, ap, ◌∙◌, subst}
+use Rattle.std.proofs.Common.{◌≡◌, ℕ, zero, suc, Bool, true, false, cond, not, ◌&&◌, ◌||◌, List, [], ◌∷◌, refl, ap}
 use Rattle.std.proofs.lemmas.Bool.{cond_both, cond-true, cond-false}
-use Rattle.trees.specs.Tree.{Tree, looks, is_in}
+use Rattle.trees.specs.Tree.{looks, is_in}
 use Rattle.bridges.specs.Net.{Copy, Rules, World, Found, NoTree, This, tree_of, without, with_copies, send_by}
-use Rattle.bridges.specs.Fabric.{Event, Send, Arrive, Lose, Believe, Announce, Adopt, Move, Forget, Crash, Turn, receive, arrives, is_newest, adopt_if, happen}
-use Rattle.bridges.specs.Trace.{copy_at, carry_answer, arrive_answer, send_answer, adopt_answer, answer, refused, RefusalsChangeNothing}
+use Rattle.bridges.specs.Fabric.{Send, Arrive, Lose, Believe, Announce, Adopt, Move, Forget, Crash, Turn, receive, arrives, is_newest, adopt_if}
+use Rattle.bridges.specs.Trace.{copy_at, carry_answer, arrive_answer, send_answer, adopt_answer, RefusalsChangeNothing}
 
 -- a frame is carried on where it isn't refused
 carried : (n : ℕ) (ns : List ℕ) → (carry_answer n ns ≡ 0 → ⊥) → is_in n ns ≡ false

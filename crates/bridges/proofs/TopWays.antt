@@ -4,8 +4,7 @@ use Rattle.std.proofs.Common.{◌≡◌, ℕ, zero, suc, ◌<◌, ◌≤◌, Boo
 use native.Mathlib.Decide.{ℕ_discrete, dec_lt}
 use Rattle.std.proofs.lemmas.Bool.Decides.{nat_tests}
 use Rattle.std.proofs.lemmas.Bool.{cond_both, eqb-true, eqb-false, eq-eqb, lt-ltb}
-use Rattle.trees.specs.Tree.{Tree, looks, joined, on, is_in}
-use Rattle.bridges.specs.Net.{at}
+use Rattle.trees.specs.Tree.{Tree, looks, joined, is_in}
 use Rattle.trees.proofs.Under.{Under, self, more, nearer}
 use Rattle.trees.proofs.Ahead.{below, leads, below-is, is_below}
 use Rattle.bridges.specs.Promise.{top_way, on_way}

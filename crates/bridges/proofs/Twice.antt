@@ -6,7 +6,7 @@ use native.Mathlib.Decide.{ℕ_discrete}
 use Rattle.std.proofs.lemmas.Bool.Decides.{nat_tests}
 use Rattle.std.proofs.lemmas.Bool.{cond_both, and_parts, and_from, not-true, eqb-false, eq-eqb, ne_eqb}
 use Rattle.trees.specs.Tree.{Tree, looks, joined, Walk, first, on, all_below}
-use Rattle.bridges.specs.Net.{Copy, Where, Unknown, Here, Behind, Got, Rules, World, Found, NoTree, This, at, tree_of, not_back, copy_to, toward, knows, without, with_copies, send_by}
+use Rattle.bridges.specs.Net.{Copy, Where, Unknown, Here, Behind, Got, Rules, World, Found, NoTree, This, tree_of, not_back, copy_to, toward, knows, without, with_copies, send_by}
 use Rattle.bridges.specs.Fabric.{Event, Send, Arrive, Lose, Believe, Announce, Adopt, Move, Forget, Crash, Turn, goes_by, may_hand, handed, forward, happen, run}
 use Rattle.trees.proofs.Simple.{below-1, below-2, joined-apart}
 use Rattle.trees.proofs.Ahead.{Leads, leads, leads-is, is-leads, leads_one, leads-within, leads-off, leads-here}

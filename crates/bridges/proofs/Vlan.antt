@@ -5,7 +5,7 @@ use mathlib.Core.List.{Memᴰ}
 use Rattle.std.proofs.lemmas.Bool.Decides.{nat_tests}
 use Rattle.std.proofs.lemmas.Bool.{cond_both, or_right, eqb-true}
 use Rattle.trees.specs.Tree.{Tree}
-use Rattle.bridges.specs.Net.{Frame, Copy, Where, Unknown, Here, Behind, Got, Rules, World, at, toward, knows, without, with_copies, send_by}
+use Rattle.bridges.specs.Net.{Frame, Copy, Where, Unknown, Here, Behind, Got, Rules, World, toward, knows, without, with_copies, send_by}
 use Rattle.bridges.specs.Fabric.{Event, Send, Arrive, Lose, Believe, Announce, Adopt, Move, Forget, Crash, Turn, goes_by, may_hand, handed, forward, happen, run}
 use Rattle.bridges.specs.Guarantee.{some, makes, sent_by}
 use Rattle.bridges.proofs.Changes.{pick-mem, without-mem, arrive-by, announce-by, adopt-by, send_by_lem}

@@ -1,9 +1,9 @@
 -- Seven worked cases of a ring of three bridges, as rows of one table: what happened, and what a run of it shows. Assumes
 -- nothing.
-use Rattle.std.specs.Prelude.{◌≡◌, ℕ, zero, suc, Bool, true, false, cond, ◌||◌, List, [], ◌∷◌, ◌++◌, ◌==◌}
+use Rattle.std.specs.Prelude.{◌≡◌, ℕ, true, false, cond, ◌||◌, List, [], ◌∷◌, ◌==◌}
 use Rattle.trees.specs.Tree.{Tree}
-use Rattle.bridges.specs.Net.{Where, Unknown, Here, Behind, Rules, World}
-use Rattle.bridges.specs.Fabric.{Event, Send, Arrive, Lose, Believe, Announce, Adopt, Move, Forget, Crash, Turn, run}
+use Rattle.bridges.specs.Net.{Where, Unknown, Here, Behind, Rules}
+use Rattle.bridges.specs.Fabric.{Event, Send, Arrive, Lose, Believe, Announce, Adopt, Move, Forget, Crash, run}
 use Rattle.bridges.specs.Trace.{Hop, Receiver, visits, hops, receivers, known, held, last_answer}
 
 -- what is looked at in a run: a frame, and a station along a tree

@@ -1,8 +1,7 @@
 -- What the code must be, to be this system: its states, what it does at each event, and what it answers and sends; the code has to give a term of this. Assumes nothing.
-use Rattle.std.specs.Prelude.{◌≡◌, ℕ, zero, suc, ◌+◌, ◌*◌, ◌/◌, ◌%◌, ◌<◌, ◌≤◌, Bool, true, false, cond, not, ◌&&◌, ◌||◌, T, List, [], ◌∷◌, ◌++◌, length, ◌==◌, nat_lt}
-use mathlib.Core.List.{Memᴰ}
-use Rattle.trees.specs.Tree.{Tree, looks, is_in}
-use Rattle.bridges.specs.Net.{Frame, Copy, Where, Unknown, Got, Rules, World, This, tree_of, toward, gets, knows, handle, start, step, first_of, came_by, Ev, Sends, Comes, Lost, Link, Announced, Takes, Moves, Forgets, Falls}
+use Rattle.std.specs.Prelude.{◌≡◌, ℕ, Bool, true, false, cond, ◌&&◌, T, List, [], ◌∷◌, ◌==◌, nat_lt}
+use Rattle.trees.specs.Tree.{Tree, is_in}
+use Rattle.bridges.specs.Net.{Copy, Where, Got, Rules, World, This, tree_of, toward, gets, knows, handle, start, step, first_of, came_by, Ev, Sends, Comes, Lost, Link, Announced, Takes, Moves, Forgets, Falls}
 
 -- what a bridge's state says: trees it holds, what it learnt, its links, and who is here
 pub record View (State : Type 0) : Type 0 where

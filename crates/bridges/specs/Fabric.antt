@@ -3,36 +3,9 @@
 -- whence it came, so it goes nowhere; nobody is handed its own frame; and adopting the tree that is the newest already
 -- changes nothing. With `lax` true the last four are as in Net, so that what is proved for both values of `lax` is
 -- proved of Net too; the code is proved against `lax` false. Assumes nothing.
-use Rattle.std.specs.Prelude.{◌≡◌, ℕ, zero, suc, Bool, true, false, cond, not, ◌&&◌, ◌||◌, List, [], ◌∷◌, ◌++◌, ◌==◌, nat_lt}
+use Rattle.std.specs.Prelude.{ℕ, zero, suc, Bool, false, cond, not, ◌&&◌, ◌||◌, List, [], ◌∷◌, ◌++◌, ◌==◌, nat_lt}
 use Rattle.trees.specs.Tree.{Tree, looks, is_in}
-use Rattle.bridges.specs.Net.{
-  Frame,
-  Copy,
-  Where,
-  Unknown,
-  Here,
-  Behind,
-  Got,
-  Rules,
-  World,
-  Found,
-  NoTree,
-  This,
-  tree_of,
-  came_by,
-  toward,
-  may_get,
-  knows,
-  learns,
-  without,
-  with_copies,
-  two,
-  send_by,
-  announce_if,
-  at,
-  at2,
-  start,
-}
+use Rattle.bridges.specs.Net.{Copy, Where, Unknown, Here, Behind, Got, Rules, World, Found, NoTree, This, tree_of, came_by, toward, may_get, knows, learns, without, with_copies, two, send_by, announce_if, at, at2, start}
 
 -- a station sends a frame, along the newest tree of its bridge; a copy arrives at its bridge, or is lost; a bridge
 -- comes to believe that its link to a neighbour is up, or down; a tree is announced, and adopted; a station moves; a

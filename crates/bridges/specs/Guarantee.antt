@@ -4,8 +4,8 @@
 -- while other things go on. Assumes nothing.
 use Rattle.std.specs.Prelude.{◌≡◌, ℕ, zero, suc, ◌+◌, ◌<◌, ◌≤◌, Bool, true, false, cond, not, ◌&&◌, ◌||◌, T, List, [], ◌∷◌, ◌++◌, length, ◌==◌, ◌≢◌, nat_lt}
 use mathlib.Core.List.{Memᴰ}
-use Rattle.trees.specs.Tree.{Tree, looks, joined, is_in, different}
-use Rattle.bridges.specs.Net.{Frame, Copy, Where, Unknown, Got, Rules, World, NoTree, tree_of}
+use Rattle.trees.specs.Tree.{Tree, looks, joined, different}
+use Rattle.bridges.specs.Net.{Copy, Unknown, Got, Rules, World, NoTree, tree_of}
 use Rattle.bridges.specs.Promise.{NotWrong, Rests, Linked, count_got, none_of}
 use Rattle.bridges.specs.Fabric.{Event, Send, Arrive, Lose, Believe, Announce, Adopt, Move, Forget, Crash, Turn, run}
 

@@ -1,6 +1,5 @@
 -- Bridges with stations, trees that are announced and taken, frames and their copies, what bridges learn, links that come and go, stations that move; and everything that can happen. Assumes nothing.
-use Rattle.std.specs.Prelude.{◌≡◌, ℕ, zero, suc, ◌+◌, ◌*◌, ◌/◌, ◌%◌, ◌<◌, ◌≤◌, Bool, true, false, cond, not, ◌&&◌, ◌||◌, T, List, [], ◌∷◌, ◌++◌, length, ◌==◌, nat_lt}
-use mathlib.Core.List.{Memᴰ}
+use Rattle.std.specs.Prelude.{ℕ, zero, suc, Bool, true, false, cond, not, ◌&&◌, List, [], ◌∷◌, ◌++◌, ◌==◌, nat_lt}
 use Rattle.trees.specs.Tree.{Tree, looks, joined, is_in}
 
 -- a frame: its number, which station sent it, to which, of which colour, along which tree

@@ -1,8 +1,8 @@
 -- What is promised of the whole, and of its parts. Each is a type; a proof of the type is the theorem. Assumes nothing.
-use Rattle.std.specs.Prelude.{◌≡◌, ℕ, zero, suc, ◌+◌, ◌*◌, ◌/◌, ◌%◌, ◌<◌, ◌≤◌, Bool, true, false, cond, not, ◌&&◌, ◌||◌, T, List, [], ◌∷◌, ◌++◌, length, ◌==◌, ◌≢◌}
+use Rattle.std.specs.Prelude.{◌≡◌, ℕ, zero, suc, ◌+◌, ◌<◌, ◌≤◌, Bool, true, false, cond, not, ◌&&◌, ◌||◌, T, List, [], ◌∷◌, ◌++◌, length, ◌==◌, ◌≢◌}
 use mathlib.Core.List.{Memᴰ}
 use Rattle.trees.specs.Tree.{Tree, looks, joined, Walk, is_in, different, all_below}
-use Rattle.bridges.specs.Net.{Frame, Copy, Where, Unknown, Here, Behind, Got, Rules, World, Found, NoTree, This, tree_of, Ev, Sends, Comes, Lost, Link, Announced, Takes, Moves, Forgets, Falls, world, step, knows, came_by}
+use Rattle.bridges.specs.Net.{Copy, Where, Unknown, Here, Behind, Got, Rules, World, NoTree, This, tree_of, Ev, Sends, Comes, Lost, Link, Announced, Takes, Moves, Forgets, Falls, world}
 
 -- 1. Whoever walks along a tree and never goes straight back is nowhere twice.
 abbrev pub Simple : Type 0

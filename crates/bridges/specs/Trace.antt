@@ -1,8 +1,8 @@
 -- What a run shows from outside: at which bridges copies of a frame were, by which links they went, who got it, and what
 -- a bridge answers to an event. Assumes nothing.
-use Rattle.std.specs.Prelude.{◌≡◌, ℕ, zero, suc, Bool, true, false, cond, ◌&&◌, ◌||◌, List, [], ◌∷◌, ◌++◌, ◌==◌, ◌≢◌, nat_lt}
-use Rattle.trees.specs.Tree.{Tree, looks, is_in}
-use Rattle.bridges.specs.Net.{Frame, Copy, Where, Got, Rules, World, Found, NoTree, This, tree_of, without, with_copies}
+use Rattle.std.specs.Prelude.{◌≡◌, ℕ, zero, suc, Bool, cond, ◌&&◌, ◌||◌, List, [], ◌∷◌, ◌++◌, ◌==◌, ◌≢◌, nat_lt}
+use Rattle.trees.specs.Tree.{looks, is_in}
+use Rattle.bridges.specs.Net.{Copy, Where, Got, Rules, World, Found, NoTree, This, tree_of, without, with_copies}
 use Rattle.bridges.specs.Fabric.{Event, Send, Arrive, Lose, Believe, Announce, Adopt, Move, Forget, Crash, Turn, receive, happen, run}
 
 -- the copy at a place, or none

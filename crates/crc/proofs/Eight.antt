@@ -1,10 +1,10 @@
 -- Eight bytes at a time: what the loop over a string leaves.
-use Rattle.std.proofs.Common.{◌≡◌, ℕ, zero, suc, ◌+◌, ◌-◌, ◌*◌, ◌/◌, ◌%◌, ◌^◌, ◌<◌, ◌≤◌, List, [], ◌∷◌, ◌++◌, length, get_or, take, drop, sym, refl, ap, ◌∙◌, subst, add-suc, suc-add, zero-add, arith, drop-cons}
+use Rattle.std.proofs.Common.{◌≡◌, ℕ, zero, suc, ◌+◌, ◌-◌, ◌*◌, ◌/◌, ◌%◌, ◌^◌, ◌<◌, ◌≤◌, List, [], ◌∷◌, ◌++◌, length, get_or, take, drop, sym, ap, ◌∙◌, subst, arith, drop-cons}
 use lib.Bits.{bit_xor}
 use Rattle.std.proofs.lemmas.List.{take_rest, get_or-drop}
 use Rattle.crc.specs.Burst.{Bytes}
 use Rattle.crc.specs.Crc.{after, through}
-use Rattle.crc.proofs.Linear.{after-eight, through-append, through-joined, joined, shifts}
+use Rattle.crc.proofs.Linear.{after-eight, through-append, through-joined, joined}
 
 -- the shifts of a number's eight bytes, from the list of them
 pub shifted-eight : (w : ℕ) (bs : List ℕ) → w < 2 ^ 64

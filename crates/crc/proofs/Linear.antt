@@ -1,6 +1,6 @@
 -- The register's shift is linear over exclusive or, and what lies above the bits that fall out only moves down.
-use Rattle.std.proofs.Common.{◌≡◌, ℕ, zero, suc, ◌+◌, ◌-◌, ◌*◌, ◌/◌, ◌%◌, ◌^◌, ◌<◌, ◌≤◌, List, [], ◌∷◌, ◌++◌, length, get_or, drop, sym, refl, ap, ◌∙◌, subst, append_assoc, mod-lt, mul_assoc, mul_comm, add_comm, suc-add, one-mul, pow-suc, zero-add, zero-mul, mul-one, add-one, arith, lit<, drop-cons, pow_pos, shr-shr, shr_lt}
-use lib.Bits.{bit_xor, xor_shr, xor_mod, xor_assoc, xor_comm, xor_zero_r, xor_zero_l, xor_self, xor_shifted, xor_lt}
+use Rattle.std.proofs.Common.{◌≡◌, ℕ, zero, suc, ◌+◌, ◌-◌, ◌*◌, ◌/◌, ◌%◌, ◌^◌, ◌<◌, ◌≤◌, List, [], ◌∷◌, ◌++◌, length, get_or, drop, sym, refl, ap, ◌∙◌, subst, append_assoc, mod-lt, mul_assoc, add_comm, suc-add, one-mul, pow-suc, zero-add, zero-mul, mul-one, add-one, arith, lit<, drop-cons, pow_pos, shr-shr, shr_lt}
+use lib.Bits.{bit_xor, xor_shr, xor_mod, xor_assoc, xor_comm, xor_zero_r, xor_self, xor_shifted, xor_lt}
 use lib.Pow.{split}
 use Rattle.std.proofs.lemmas.List.{drop_all}
 use Rattle.crc.specs.Burst.{Bytes}

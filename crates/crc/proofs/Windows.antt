@@ -1,9 +1,9 @@
 -- A window of at most 32 bits is told by the register: each shift can be undone, and after k bits the register is the window's number, shifted k times.
-use Rattle.std.proofs.Common.{◌≡◌, ℕ, zero, suc, ◌+◌, ◌-◌, ◌*◌, ◌/◌, ◌%◌, ◌^◌, ◌<◌, ◌≤◌, List, [], ◌∷◌, ◌++◌, length, get_or, drop, sym, refl, ap, ◌∙◌, subst, le_refl, mod-lt, add_comm, pow-suc, arith, lit<, length-append, pow_mono}
+use Rattle.std.proofs.Common.{◌≡◌, ℕ, zero, suc, ◌+◌, ◌*◌, ◌/◌, ◌%◌, ◌^◌, ◌<◌, ◌≤◌, List, [], ◌∷◌, ◌++◌, length, get_or, drop, sym, refl, ap, ◌∙◌, subst, mod-lt, add_comm, pow-suc, arith, lit<, pow_mono}
 use lib.Bits.{bit_xor, xor_shr, xor_assoc, xor_comm, xor_self, xor_zero_r, xor_shifted, xor_lt}
 use Rattle.crc.specs.Crc.{polynomial, shifted, taken, register, low_bits, bits_of, after, crc_of, crc_bits, all_ones}
-use Rattle.crc.specs.Burst.{Bits, Bytes, Window, BitsTold, BurstTold, FourBytesTold, Told}
-use Rattle.crc.proofs.Linear.{shifted-xor, shifted-double, shifted-below, after-below, register-append, bits-append}
+use Rattle.crc.specs.Burst.{Bits, Bytes, BitsTold, BurstTold, FourBytesTold, Told}
+use Rattle.crc.proofs.Linear.{shifted-xor, shifted-double, shifted-below, register-append, bits-append}
 
 -- exclusive or with one number can be undone
 pub xor-undo : (c a : ℕ) → bit_xor c (bit_xor c a) ≡ a

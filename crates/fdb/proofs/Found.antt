@@ -1,10 +1,10 @@
 -- What is found of a station after an entry was put in its place, after some were left out, and who is the oldest.
-use Rattle.std.proofs.Common.{◌≡◌, ℕ, zero, suc, ◌+◌, ◌-◌, ◌<◌, ◌≤◌, Bool, true, false, cond, not, ◌&&◌, ◌||◌, eqb, ltb, leb, ◌⊎◌, List, [], ◌∷◌, ◌++◌, length, get_or, take, drop, set, is_some, Some, None, filter, Option, sym, refl, ap, ◌∙◌, subst, inl, inr, arith}
+use Rattle.std.proofs.Common.{◌≡◌, ℕ, ◌+◌, ◌<◌, ◌≤◌, Bool, true, false, cond, not, eqb, ltb, List, [], ◌∷◌, length, Some, None, filter, Option, refl, arith}
 use Rattle.std.proofs.lemmas.Bool.Decides.{nat_tests}
-use Rattle.std.proofs.lemmas.Bool.{and_parts, ltb-true, cond_both, cases_eq}
+use Rattle.std.proofs.lemmas.Bool.{and_parts}
 use Rattle.fdb.specs.declared.entry.Entry.{Entry}
 use Rattle.fdb.proofs.Ordered.{find-kept}
-use Rattle.fdb.specs.Entries.{above, ascending, find, put, without, oldest, longer, earlier, remembered, fresh}
+use Rattle.fdb.specs.Entries.{above, ascending, find, put, without, oldest, longer, earlier}
 
 pub find-put : (e : Entry) (es : List Entry) → find e.station (put e es) ≡ Some e
 unfolding find put

@@ -1,18 +1,18 @@
 -- Whatever happened to a table: what it says is the last thing that was heard, and who went was heard before all that stayed.
-use Rattle.std.proofs.Common.{◌≡◌, ℕ, zero, suc, ◌+◌, ◌-◌, ◌^◌, ◌<◌, ◌≤◌, Bool, true, false, cond, not, ◌&&◌, ◌||◌, eqb, ltb, leb, ◌⊎◌, List, [], ◌∷◌, ◌++◌, length, is_some, Some, None, filter, Option, sym, refl, ap, ◌∙◌, subst, inl, inr, arith}
+use Rattle.std.proofs.Common.{◌≡◌, ℕ, ◌+◌, ◌-◌, ◌^◌, ◌<◌, ◌≤◌, Bool, true, false, cond, ◌||◌, ltb, leb, List, [], ◌∷◌, length, is_some, Some, None, filter, Option, sym, refl, ap, ◌∙◌, inl, inr, arith}
 use Rattle.std.proofs.lemmas.Bool.Decides.{nat_tests}
-use Rattle.std.proofs.lemmas.Bool.{and_parts, ltb-true, ltb-false, cond_both, cases_eq, cases_lt, lt-ltb, le-ltb, leb-true, eq-eqb, ne_eqb, or_parts, both_ways}
+use Rattle.std.proofs.lemmas.Bool.{and_parts, cases_eq, cases_lt, lt-ltb, le-ltb, leb-true, eq-eqb, ne_eqb, or_parts, both_ways}
 use Rattle.fdb.specs.declared.station.Station.{Station}
 use Rattle.fdb.specs.declared.entry.Location.{Location}
 use Rattle.fdb.specs.declared.entry.Entry.{Entry}
 use Rattle.fdb.specs.Address.{group_address}
-use Rattle.fdb.specs.Entries.{ascending, find, put, oldest, earlier, remembered, fresh, where_is, place_of}
-use Rattle.fdb.specs.Contents.{Contents, empty, most, number_of, room_for, learned, learnt, aged, entry_of, next}
-use Rattle.fdb.specs.Learning.{Sound, Learning}
-use Rattle.fdb.specs.History.{Event, Heard, Passed, Cleared, after, clock, rising, hears, Sighting, last_heard, goes, is_of, evicted_since, Remembers, History, Longest}
-use Rattle.fdb.proofs.Ordered.{find-kept, ascending-none}
+use Rattle.fdb.specs.Entries.{ascending, find, oldest, earlier, remembered, fresh, where_is, place_of}
+use Rattle.fdb.specs.Contents.{Contents, most, number_of, room_for, learned, learnt, entry_of}
+use Rattle.fdb.specs.Learning.{Sound}
+use Rattle.fdb.specs.History.{Event, Heard, Passed, Cleared, after, clock, rising, hears, Sighting, last_heard, goes, is_of, evicted_since, History, Longest}
+use Rattle.fdb.proofs.Ordered.{find-kept}
 use Rattle.fdb.proofs.Found.{find-put, find-put-other, oldest-other, oldest-held, oldest-first, find-kept-yes, find-kept-no}
-use Rattle.fdb.proofs.Learns.{Left, stayed, went, left, learns, ages}
+use Rattle.fdb.proofs.Learns.{stayed, went, left, learns, ages}
 
 -- who is heard: a group, never; the station itself; another
 data Who (k : ℕ) (s : Station) : Type 0 where

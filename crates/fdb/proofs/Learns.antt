@@ -1,19 +1,15 @@
 -- What is known after a station was heard, and after time has passed.
-use Rattle.std.proofs.Common.{◌≡◌, ℕ, zero, suc, ◌+◌, ◌-◌, ◌<◌, ◌≤◌, Bool, true, false, cond, not, ◌&&◌, ◌||◌, eqb, ltb, leb, ◌⊎◌, List, [], ◌∷◌, ◌++◌, length, is_some, Some, None, filter, Option, sym, refl, ap, ◌∙◌, subst, inl, inr, arith}
-use Rattle.std.proofs.lemmas.Bool.Decides.{nat_tests}
-use Rattle.std.proofs.lemmas.Bool.{and_parts, ltb-true, ltb-false, cond_both, cases_eq, lt-ltb, le-ltb, true≢false}
-use Rattle.fdb.specs.declared.station.Station.{Station}
-use Rattle.fdb.specs.declared.entry.Location.{Location}
+use Rattle.std.proofs.Common.{◌≡◌, ℕ, ◌+◌, ◌<◌, ◌≤◌, Bool, true, false, cond, ltb, ◌⊎◌, List, length, is_some, Some, None, Option, sym, refl, ap, ◌∙◌, subst, inl, inr, arith}
+use Rattle.std.proofs.lemmas.Bool.{ltb-true, ltb-false, cases_eq, lt-ltb, le-ltb}
 use Rattle.fdb.specs.declared.entry.Entry.{Entry}
-use Rattle.fdb.specs.Address.{group_address}
-use Rattle.fdb.specs.Entries.{above, ascending, find, put, without, oldest, longer, earlier, remembered, fresh, where_is}
-use Rattle.fdb.specs.Contents.{Contents, most, number_of, evicted, room_for, learned, learnt, aged, entry_of, next}
-use Rattle.fdb.specs.Learning.{Sound, Evicts, Learns, Learning}
-use Rattle.fdb.specs.Ageing.{Forgets, Ageing}
+use Rattle.fdb.specs.Entries.{ascending, find, put, without, oldest, earlier, remembered, fresh, where_is}
+use Rattle.fdb.specs.Contents.{most, number_of, room_for, learned, entry_of}
+use Rattle.fdb.specs.Learning.{Sound, Evicts, Learning}
+use Rattle.fdb.specs.Ageing.{Ageing}
 use Rattle.fdb.specs.declared.table.Table.{Table}
 use Rattle.fdb.specs.Held.{contents}
-use Rattle.fdb.proofs.Ordered.{ascending-put, room-ascending, learned-ascending, ascending-remembered, oldest-some, room-new, find-kept}
-use Rattle.fdb.proofs.Found.{find-put, find-put-other, find-without, find-without-other, find-station, length-put-new, length-put-known, length-kept, length_without, oldest-other, oldest-held, oldest-first, find-kept-yes, find-kept-no}
+use Rattle.fdb.proofs.Ordered.{room-ascending, learned-ascending, ascending-remembered, oldest-some, room-new, find-kept}
+use Rattle.fdb.proofs.Found.{find-put, find-put-other, find-without, find-without-other, length-put-new, length-put-known, length-kept, length_without, oldest-other, oldest-held, oldest-first, find-kept-yes, find-kept-no}
 
 -- what is found of a station after room was made: what was, or nothing, of the one that went
 pub data Left (keep k : ℕ) (es : List Entry) : Type 0 where

@@ -1,13 +1,13 @@
 -- Entries in the order of their stations: what stands at which index, and that the order stays.
-use Rattle.std.proofs.Common.{◌≡◌, ℕ, zero, suc, ◌+◌, ◌-◌, ◌<◌, ◌≤◌, Bool, true, false, cond, not, ◌&&◌, ◌||◌, eqb, ltb, leb, ◌⊎◌, List, [], ◌∷◌, ◌++◌, length, get_or, take, drop, set, is_some, Some, None, filter, Option, sym, refl, ap, ◌∙◌, subst, inl, inr, arith}
+use Rattle.std.proofs.Common.{◌≡◌, ℕ, zero, suc, ◌+◌, ◌-◌, ◌<◌, ◌≤◌, Bool, true, cond, eqb, ltb, List, [], ◌∷◌, length, get_or, drop, set, is_some, Some, None, filter, Option, sym, refl, ◌∙◌, subst, inl, inr, arith}
 use Rattle.std.proofs.lemmas.Bool.Decides.{nat_tests}
-use Rattle.std.proofs.lemmas.Bool.{and_parts, and_from, ltb-true, lt-ltb, le-ltb, eq-eqb, ne_eqb, cond_both, cases_lt}
+use Rattle.std.proofs.lemmas.Bool.{and_parts, le-ltb, cond_both, cases_lt}
 use Rattle.std.proofs.lemmas.List.{at_drop_more}
 use Rattle.std.specs.List.{insert, remove}
 use Rattle.fdb.specs.declared.entry.Entry.{Entry}
 use Rattle.fdb.specs.Entries.{no_entry, above, ascending, find, put, without, oldest, remembered, fresh, longer}
 use Rattle.fdb.specs.Search.{StandsAt, BelongsAt}
-use Rattle.fdb.specs.Contents.{most, evicted, room_for, learned, learnt}
+use Rattle.fdb.specs.Contents.{most, evicted, room_for, learned}
 
 -- what is above s stands above s at every index
 pub above_at : (s : ℕ) (xs : List Entry) → above s xs ≡ true → (k : ℕ) → k < length xs → s < (get_or xs k no_entry).station

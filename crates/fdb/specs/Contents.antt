@@ -1,5 +1,5 @@
 -- All that a table says and will do: its entries, and how much it has heard; and what hearing a station and the passing of time make of it.
-use Rattle.std.specs.Prelude.{◌≡◌, ℕ, ◌+◌, ◌-◌, ◌^◌, Bool, true, false, cond, List, [], length, is_some, Some, None, Option, nat_lt}
+use Rattle.std.specs.Prelude.{ℕ, ◌+◌, ◌-◌, ◌^◌, cond, List, [], length, is_some, Some, None, Option, nat_lt}
 use Rattle.fdb.specs.declared.station.Station.{Station}
 use Rattle.fdb.specs.declared.entry.Location.{Location}
 use Rattle.fdb.specs.declared.entry.Entry.{Entry}

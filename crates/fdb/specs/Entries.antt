@@ -1,7 +1,7 @@
 -- What is held of stations, as a plain list of entries: what is found in it, and what it becomes when a station is heard, when time passes, and when there is no room.
-use Rattle.std.specs.Prelude.{◌≡◌, ℕ, ◌+◌, Bool, true, false, cond, not, ◌&&◌, ◌||◌, List, [], ◌∷◌, length, is_some, Some, None, filter, Option, ◌==◌, nat_lt}
+use Rattle.std.specs.Prelude.{ℕ, ◌+◌, Bool, true, cond, not, ◌&&◌, ◌||◌, List, [], ◌∷◌, Some, None, filter, Option, ◌==◌, nat_lt}
 use Rattle.fdb.specs.declared.entry.Location.{Location}
-use Rattle.fdb.specs.declared.entry.Location.TheVariants.{Here, Behind}
+use Rattle.fdb.specs.declared.entry.Location.TheVariants.{Here}
 use Rattle.fdb.specs.declared.entry.Entry.{Entry}
 
 -- what stands past the end of a list of entries

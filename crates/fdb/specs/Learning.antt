@@ -1,5 +1,5 @@
 -- What is known after a station was heard: where it is; of every other station what was known, but for one that may have gone for want of room.
-use Rattle.std.specs.Prelude.{◌≡◌, ℕ, ◌≤◌, true, false, ◌⊎◌, length, Some, None, Option, ◌≢◌}
+use Rattle.std.specs.Prelude.{◌≡◌, ℕ, ◌≤◌, true, false, ◌⊎◌, length, Some, None, ◌≢◌}
 use Rattle.fdb.specs.declared.station.Station.{Station}
 use Rattle.fdb.specs.declared.entry.Location.{Location}
 use Rattle.fdb.specs.declared.entry.Entry.{Entry}

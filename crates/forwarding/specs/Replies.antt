@@ -1,12 +1,11 @@
 -- What a bridge answers to a frame. Assumes nothing.
-use Rattle.std.specs.Prelude.{◌≡◌, ℕ, ◌%◌, ◌<◌, ◌≤◌, Bool, true, false, cond, not, ◌&&◌, ◌||◌, List, Some, None, Ok, Err, Option, Result, ◌==◌, nat_lt, slice_index_or}
+use Rattle.std.specs.Prelude.{◌≡◌, ℕ, ◌<◌, Bool, true, false, cond, not, ◌&&◌, List, Some, None, Ok, Err, Option, Result, ◌==◌, nat_lt, slice_index_or}
 use Rattle.bridges.specs.Net.{Found, NoTree, This}
 use Rattle.fdb.specs.declared.entry.Location.{Location}
 use Rattle.fdb.specs.declared.entry.Location.TheVariants.{Here, Behind}
 use Rattle.fdb.specs.Address.{group_address, station_number}
 use Rattle.forwarding.specs.declared.fault.Fault.{Fault}
 use Rattle.forwarding.specs.declared.fault.Fault.TheVariants as fault
-use Rattle.ports.specs.declared.port.Port.{Port}
 use Rattle.ports.specs.declared.port.Port.TheVariants as port
 use Rattle.ports.specs.declared.port.Link.{Link}
 use Rattle.ports.specs.Ports.{Kind, Idle, ToStations, ToBridge, ports_of}

@@ -1,5 +1,5 @@
 -- What a bridge holds and has learnt, and what each thing that happens to it makes of that. Assumes nothing.
-use Rattle.std.specs.Prelude.{◌≡◌, ℕ, ◌<◌, Bool, true, false, cond, not, ◌&&◌, ◌||◌, List, [], ◌∷◌, ◌++◌, replicate, Some, None, Option, ◌==◌, slice_set}
+use Rattle.std.specs.Prelude.{ℕ, Bool, true, false, cond, List, Some, None, Option, ◌==◌, slice_set}
 use Rattle.trees.specs.Tree.{Tree}
 use Rattle.bridges.specs.Net.{Found, NoTree, This}
 use Rattle.fdb.specs.declared.entry.Location.{Location}
@@ -8,7 +8,7 @@ use Rattle.fdb.specs.Contents.{Contents, empty, learned, next, aged}
 use Rattle.ports.specs.declared.port.Port.{Port}
 use Rattle.ports.specs.declared.port.Port.TheVariants.{Unused, Access, Trunk}
 use Rattle.ports.specs.declared.port.Link.{Link}
-use Rattle.ports.specs.Ports.{Kind, ports_of}
+use Rattle.ports.specs.Ports.{Kind}
 use Rattle.ports.specs.Places.{Place, place_of, Came}
 use Rattle.ports.specs.Outward.{out_by}
 

@@ -1,5 +1,5 @@
 -- A frame between bridges: 1, by (1), for (1), tree (8), vlan (2), a station's frame, sum (4): 31 to 1,529 bytes in all.
-use Rattle.std.specs.Prelude.{◌≡◌, ℕ, ◌-◌, Bool, cond, ◌&&◌, List, [], ◌∷◌, ◌++◌, length, take, drop, Some, None, Option, Result, MatchResult, ◌==◌, nat_le, nat_lt, slice_index}
+use Rattle.std.specs.Prelude.{◌≡◌, ℕ, ◌-◌, Bool, cond, ◌&&◌, List, ◌∷◌, ◌++◌, length, take, drop, Some, None, Option, Result, MatchResult, ◌==◌, nat_le, nat_lt, slice_index}
 use Rattle.wire.specs.declared.fault.Fault.{Fault}
 use Rattle.wire.specs.declared.fault.Fault.TheVariants.{Malformed, NotThere}
 use Rattle.frames.specs.declared.forwarded.Header.{Header}

@@ -1,5 +1,5 @@
 -- Stations looked at one by one.
-use Rattle.std.proofs.Common.{◌≡◌, ℕ, ◌+◌, ◌<◌, ◌≤◌, Bool, true, false, cond, not, ltb, List, [], ◌∷◌, ◌++◌, map, length, get_or, drop, set, Ok, Err, vec_items, vec_len, Result, Vec, sym, refl, ap, ◌∙◌, arith}
+use Rattle.std.proofs.Common.{◌≡◌, ℕ, ◌+◌, ◌<◌, ◌≤◌, Bool, true, false, cond, not, ltb, List, [], ◌∷◌, ◌++◌, map, length, get_or, drop, set, Ok, Err, vec_items, vec_len, Vec, sym, ap, ◌∙◌, arith}
 use Rattle.std.specs.declared.alloc.Global.{Global}
 use Rattle.std.proofs.lemmas.Bool.{cond-true, cond-false, le-ltb, lt-ltb}
 use Rattle.scan.specs.declared.parts.PortRef.{PortRef}
@@ -7,7 +7,6 @@ use Rattle.script.specs.declared.faults.Expected.TheVariants as expected
 use Rattle.wiring.specs.declared.boxes.Node.{Node}
 use Rattle.wiring.specs.Boxes.{port_at}
 use Rattle.wiring.specs.Rules.{want_access}
-use Rattle.std.specs.List.{prefix_len}
 use Rattle.std.specs.Str.{bytes_eq}
 use Rattle.std.proofs.lemmas.List.{length-map, get_or-map, map_push, map-set}
 use Rattle.std.proofs.lemmas.List.Sums.{prefix_len-drop_yes, prefix_len-drop_no, prefix_len-drop_all}

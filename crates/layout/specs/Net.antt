@@ -1,7 +1,6 @@
 -- The net as far as a script has described it, and what each command does to it.
 use Rattle.std.specs.Prelude.{ℕ, List, [], replicate, Ok, Err, Result}
 use Rattle.script.specs.declared.faults.Expected.{Expected}
-use Rattle.script.specs.declared.faults.Expected.TheVariants as expected
 use Rattle.script.specs.Grammar.{thus, Aim, everyone, one, Said, blank, bridge, access, cable, pull, station, move, send, tick, lose, fall, start, rest, tree, adopt}
 use Rattle.wiring.specs.declared.boxes.Node.{Node}
 use Rattle.wiring.specs.declared.boxes.Power.TheVariants as power

@@ -1,5 +1,5 @@
 -- Rows of every second byte.
-use Rattle.std.proofs.Common.{◌≡◌, ℕ, zero, suc, ◌+◌, ◌*◌, ◌<◌, ◌≤◌, List, [], ◌∷◌, length, get_or, sym, refl, ap, ◌∙◌, arith}
+use Rattle.std.proofs.Common.{◌≡◌, ℕ, zero, suc, ◌+◌, ◌*◌, ◌<◌, List, length, get_or, refl, ap, ◌∙◌, arith}
 use Rattle.messages.specs.TreeBytes.{row}
 
 pub length-row : (b : List ℕ) (i n : ℕ) → length (row b i n) ≡ n

@@ -1,18 +1,17 @@
 -- When a tree in bytes is one, and why not.
-use Rattle.std.proofs.Common.{◌≡◌, ℕ, zero, suc, ◌+◌, ◌*◌, ◌^◌, ◌<◌, ◌≤◌, Bool, true, false, cond, ◌&&◌, ltb, List, [], ◌∷◌, length, get_or, Some, None, Option, sym, refl, ap, ◌∙◌, subst, arith, le-ltb, lt-ltb}
+use Rattle.std.proofs.Common.{◌≡◌, ℕ, zero, suc, ◌+◌, ◌*◌, ◌^◌, ◌<◌, ◌≤◌, Bool, true, false, cond, ◌&&◌, ltb, List, [], ◌∷◌, length, get_or, Some, None, sym, refl, ap, ◌∙◌, subst, arith, le-ltb, lt-ltb}
 use Rattle.trees.specs.Tree.{all_below, looks}
 use Rattle.trees.specs.Ids.{id_number}
-use Rattle.trees.specs.Shapes.{shaped, Named, Unnamed}
+use Rattle.trees.specs.Shapes.{shaped, Named}
 use Rattle.trees.specs.Meanings.{Refused}
 use Rattle.trees.specs.declared.spanning_tree.Tree.{Tree}
 use Rattle.trees.specs.declared.tree_id.TreeId.{TreeId}
 use Rattle.trees.specs.declared.shape.TreeFault.{TreeFault}
 use Rattle.trees.specs.declared.shape.TreeFault.TheVariants.{NoSuchBridge, NotATree}
-use Rattle.wire.specs.declared.fault.Fault.{Fault}
 use Rattle.wire.specs.declared.fault.Fault.TheVariants as wire
-use Rattle.wire.specs.Bytes.{three, four, whole}
+use Rattle.wire.specs.Bytes.{whole}
 use Rattle.wire.specs.TreeIds.{TreeIdSays}
-use Rattle.messages.specs.TreeBytes.{row, parents_in, depths_in, number_in, tree_fault, fault_of, TreeSays}
+use Rattle.messages.specs.TreeBytes.{parents_in, depths_in, number_in, tree_fault, fault_of, TreeSays}
 use Rattle.messages.proofs.Columns.{length-row}
 
 all-below : (m : ℕ) (xs : List ℕ) → ((k : ℕ) → k < length xs → get_or xs k 0 < m) → all_below m xs ≡ true

@@ -1,6 +1,6 @@
 -- An acknowledgement: 5, incarnation of who says it (4), kind (1), and of a link state (kind 3) its bridge (1), incarnation (4), count (6); of a tree (kind 4)
 -- its number (8); sum (4).
-use Rattle.std.specs.Prelude.{◌≡◌, ℕ, Bool, cond, ◌&&◌, ◌||◌, List, [], ◌∷◌, ◌++◌, length, Some, None, Option, Result, MatchResult, ◌==◌, nat_lt, slice_index}
+use Rattle.std.specs.Prelude.{◌≡◌, ℕ, cond, List, [], ◌∷◌, ◌++◌, Some, None, Option, Result, MatchResult, ◌==◌, nat_lt, slice_index}
 use Rattle.sets.specs.declared.bridge_id.BridgeId.{BridgeId}
 use Rattle.wire.specs.declared.fault.Fault.{Fault}
 use Rattle.wire.specs.declared.fault.Fault.TheVariants.{Malformed, NotThere}

@@ -1,5 +1,5 @@
 -- A hello: 2, bridge (1), incarnation (4), heard (4), sum (4).
-use Rattle.std.specs.Prelude.{◌≡◌, ℕ, cond, List, [], ◌∷◌, ◌++◌, Some, None, Option, Result, MatchResult, nat_lt, slice_index}
+use Rattle.std.specs.Prelude.{◌≡◌, ℕ, cond, List, ◌∷◌, ◌++◌, Some, None, Option, Result, MatchResult, nat_lt, slice_index}
 use Rattle.wire.specs.declared.fault.Fault.{Fault}
 use Rattle.wire.specs.declared.fault.Fault.TheVariants.{Malformed, NotThere}
 use Rattle.messages.specs.declared.hello.Hello.{Hello}

@@ -1,5 +1,5 @@
 -- A link state: 3, bridge (1), incarnation (4), count (6), neighbours (16, a bit for each bridge), sum (4).
-use Rattle.std.specs.Prelude.{◌≡◌, ℕ, cond, List, [], ◌∷◌, ◌++◌, take, drop, Some, None, Option, Result, MatchResult, nat_lt, slice_index}
+use Rattle.std.specs.Prelude.{◌≡◌, ℕ, cond, List, ◌∷◌, ◌++◌, take, drop, Some, None, Option, Result, MatchResult, nat_lt, slice_index}
 use Rattle.sets.specs.Sets.{bytes_of, number_of}
 use Rattle.wire.specs.declared.fault.Fault.{Fault}
 use Rattle.wire.specs.declared.fault.Fault.TheVariants.{Malformed, NotThere}

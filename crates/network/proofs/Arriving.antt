@@ -1,27 +1,26 @@
 -- A station sends a frame, and a copy arrives.
-use Rattle.std.proofs.Common.{◌≡◌, ℕ, zero, suc, ◌^◌, ◌<◌, ◌≤◌, Bool, true, false, cond, not, ◌&&◌, ◌||◌, eqb, ltb, ◌⊎◌, List, [], ◌∷◌, ◌++◌, sym, refl, ap, ◌∙◌, subst, inl, inr, arith}
+use Rattle.std.proofs.Common.{◌≡◌, ℕ, zero, suc, ◌^◌, ◌<◌, true, false, ◌||◌, List, [], ◌∷◌, ◌++◌, sym, refl, ap, ◌∙◌, subst, arith}
 use mathlib.Core.List.Memᴰ
 use mathlib.Core.List.{Memᴰ}
 use Rattle.std.proofs.lemmas.Bool.Decides.{nat_tests}
 use Rattle.std.proofs.lemmas.Bool.{eq-eqb, lt-ltb, or_left, or_right, or_from, cond_both}
 use Rattle.trees.specs.Tree.{Tree, is_in}
-use Rattle.bridges.specs.Net.{Frame, Copy, Where, Unknown, Here, Behind, Got, World, Found, NoTree, This, tree_of, came_by, not_back, without, with_copies, send_by, at}
-use Rattle.bridges.specs.Fabric.{Event, Send, Arrive, Lose, happen, forward, receive, arrives}
+use Rattle.bridges.specs.Net.{Copy, World, Found, NoTree, This, tree_of, came_by, not_back, without, with_copies, send_by}
+use Rattle.bridges.specs.Fabric.{Event, Send, Arrive, happen, forward, receive, arrives}
 use Rattle.ports.specs.Ports.{ports_of}
-use Rattle.ports.specs.Places.{Place, Nowhere, AtPort, Toward, Came, ByPort, ByBridge, sender, not_to_bridge}
-use Rattle.forwarding.specs.State.{Slot, State, is_tree}
+use Rattle.ports.specs.Places.{Came, ByPort, ByBridge, sender, not_to_bridge}
+use Rattle.forwarding.specs.State.{is_tree}
 use Rattle.forwarding.specs.declared.fault.Fault.{Fault}
 use Rattle.forwarding.specs.declared.fault.Fault.TheVariants as fault
 use Rattle.forwarding.specs.Replies.{Way, Refuse, Newest, Older, none, after, goes}
-use Rattle.network.specs.Network.{Network, Plug, rules, vlan_of, is_here, handled, known_on, locate, track_of, came_from, first_copy, number_of_newest, Pick, NoCopy, One, pick, getters, sent_on}
-use Rattle.network.specs.Simulation.{tree_in, held_by, numbers, place_in, where_is, home_of, Simulates}
-use Rattle.network.proofs.Tests.{by-test}
+use Rattle.network.specs.Network.{Network, rules, vlan_of, is_here, handled, known_on, locate, track_of, came_from, first_copy, number_of_newest, One, pick}
+use Rattle.network.specs.Simulation.{tree_in, numbers, where_is, Simulates}
 use Rattle.network.proofs.Worlds.{follow, follow-append}
 use Rattle.network.proofs.Onward.{sent-refused}
 use Rattle.network.proofs.Handing.{none-get, getters-same}
-use Rattle.network.proofs.Standing.{with_bridge, bridge-same}
+use Rattle.network.proofs.Standing.{bridge-same}
 use Rattle.network.proofs.Frames.{along-newest, along-older}
-use Rattle.network.proofs.Steady.{Kept, Flies, Steady}
+use Rattle.network.proofs.Steady.{Flies, Steady}
 
 -- the copy at a place
 arrives-pick : (i : ℕ) (xs : List Copy) (x : Copy) (w : World) → pick i xs ≡ One x → arrives false rules i xs w ≡ receive false rules x (tree_of x.frame.tree w.trees) w

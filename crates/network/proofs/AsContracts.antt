@@ -1,18 +1,17 @@
 -- That a bridge of the net does with a frame what the contracts of the code say that it does.
-use Rattle.std.proofs.Common.{◌≡◌, ℕ, ◌+◌, ◌*◌, ◌^◌, ◌<◌, ◌≤◌, Bool, true, false, cond, not, ◌&&◌, ◌||◌, eqb, ltb, List, length, get_or, Result, sym, refl, ap, ◌∙◌, subst, arith}
+use Rattle.std.proofs.Common.{◌≡◌, ℕ, ◌<◌, true, false, eqb, List, length, get_or, refl, subst, arith}
 use native.Mathlib.Decide.{dec_lt}
 use Rattle.std.proofs.lemmas.Bool.Decides.{nat_tests}
 use Rattle.std.proofs.lemmas.Bool.{eq-eqb, lt-ltb}
 use Rattle.std.proofs.lemmas.List.{get_or_past}
 use Rattle.fdb.specs.Address.{group_address, address_number, station_number}
-use Rattle.forwarding.specs.declared.fault.Fault.{Fault}
 use Rattle.ports.specs.declared.port.Port.{Port}
 use Rattle.ports.specs.declared.port.Port.TheVariants.{Unused, Access, Trunk}
 use Rattle.ports.specs.Ports.{kind_of, ports_of}
 use Rattle.ports.specs.Places.{ByPort, ByBridge}
 use Rattle.ports.specs.Outward.{serves}
 use Rattle.forwarding.specs.State.{State}
-use Rattle.forwarding.specs.Replies.{Way, Newest, none, vlan_at, station_way, neighbour_way, after, Answers, FromStation, FromNeighbour}
+use Rattle.forwarding.specs.Replies.{Newest, none, vlan_at, station_way, neighbour_way, after, Answers}
 use Rattle.network.specs.Network.{vlan_of, locate, track_of}
 use Rattle.network.specs.AsContracts.{SendsAsContract, ComesAsContract, StationsHaveNumbers, AsContracts}
 

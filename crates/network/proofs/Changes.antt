@@ -1,31 +1,30 @@
 -- A tree is announced or adopted, a bridge crashes, or comes to believe something of a link.
-use Rattle.std.proofs.Common.{◌≡◌, ℕ, zero, suc, ◌<◌, ◌≤◌, Bool, true, false, cond, not, ◌&&◌, ◌||◌, eqb, ltb, ◌⊎◌, List, [], ◌∷◌, ◌++◌, length, get_or, set, Some, None, Option, sym, refl, ap, ◌∙◌, subst, inl, inr, arith, get_or-set_other, get_or-set_same}
+use Rattle.std.proofs.Common.{◌≡◌, ℕ, ◌<◌, ◌≤◌, Bool, true, false, cond, not, ◌&&◌, eqb, ltb, List, [], ◌∷◌, ◌++◌, length, get_or, set, Some, None, Option, sym, refl, ap, ◌∙◌, subst, inl, inr, arith, get_or-set_other, get_or-set_same}
 use mathlib.Core.List.Memᴰ
-use mathlib.Core.List.{Memᴰ}
 use native.Mathlib.Decide.{ℕ_discrete, dec_lt}
 use lib.Seq.{set_out}
 use Rattle.std.proofs.lemmas.Bool.Decides.{nat_tests}
-use Rattle.std.proofs.lemmas.Bool.{eq-eqb, ne_eqb, lt-ltb, le-ltb, ltb-false}
-use Rattle.trees.specs.Tree.{Tree, looks, is_in}
-use Rattle.bridges.specs.Net.{Copy, Where, Unknown, Here, Behind, Got, World, Found, NoTree, This, tree_of, two, announce_if, at}
-use Rattle.bridges.specs.Fabric.{Event, Announce, Adopt, Believe, Crash, happen, is_newest, adopt_if}
+use Rattle.std.proofs.lemmas.Bool.{eq-eqb, ne_eqb, ltb-false}
+use Rattle.trees.specs.Tree.{Tree, looks}
+use Rattle.bridges.specs.Net.{World, Found, NoTree, This, tree_of, two, announce_if}
+use Rattle.bridges.specs.Fabric.{Event, Announce, Adopt, Crash, is_newest, adopt_if}
 use Rattle.bridges.proofs.Keeps.{tree-stays}
 use Rattle.fdb.specs.Entries.{find}
-use Rattle.fdb.specs.Contents.{Contents, empty}
+use Rattle.fdb.specs.Contents.{empty}
 use Rattle.ports.specs.declared.port.Port.{Port}
 use Rattle.ports.specs.declared.port.Port.TheVariants.{Unused, Access, Trunk}
 use Rattle.ports.specs.declared.port.Link.{Link}
-use Rattle.ports.specs.Ports.{Kind, kind_of, ports_of, none_below}
-use Rattle.ports.specs.Places.{Place, Nowhere, AtPort, Toward}
+use Rattle.ports.specs.Ports.{kind_of, ports_of, none_below}
+use Rattle.ports.specs.Places.{Place, Nowhere}
 use Rattle.ports.specs.Outward.{serves}
-use Rattle.forwarding.specs.State.{Slot, State, is_tree, look_in, is_access, link_port, linked, crashed, started, no_slot}
+use Rattle.forwarding.specs.State.{State, is_tree, look_in, is_access, link_port, crashed}
 use Rattle.forwarding.specs.Replies.{none, may_link, relinked}
-use Rattle.network.specs.Network.{Network, Plug, rules}
-use Rattle.network.specs.Simulation.{tree_in, held_by, numbers, place_in, where_is, home_of, Simulates}
-use Rattle.network.proofs.Tests.{by-test, by-eq}
+use Rattle.network.specs.Network.{Network, rules}
+use Rattle.network.specs.Simulation.{tree_in, numbers, where_is, Simulates}
+use Rattle.network.proofs.Tests.{by-test}
 use Rattle.network.proofs.Onward.{none-beyond}
-use Rattle.network.proofs.Worlds.{follow, believes_all, believed, beliefs, believes-so}
-use Rattle.network.proofs.Standing.{Stands, StandsOf, with_bridge, View, view, whole, homes-stay}
+use Rattle.network.proofs.Worlds.{follow, believes_all, believes-so}
+use Rattle.network.proofs.Standing.{with_bridge, View, view, whole, homes-stay}
 use Rattle.network.proofs.Learning.{with_tables}
 
 -- a tree is announced: those that are held stay announced

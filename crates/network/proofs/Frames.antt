@@ -1,28 +1,27 @@
 -- A bridge handles a frame along a tree: it learns the sender, the frame goes on, stations get it, and who had to go for want of room is forgotten.
-use Rattle.std.proofs.Common.{◌≡◌, ℕ, zero, suc, ◌^◌, ◌<◌, ◌≤◌, Bool, true, false, cond, not, ◌&&◌, ◌||◌, eqb, ltb, ◌⊎◌, List, [], ◌∷◌, ◌++◌, sym, refl, ap, ◌∙◌, subst, inl, inr, arith}
-use mathlib.Core.List.{Memᴰ}
+use Rattle.std.proofs.Common.{◌≡◌, ℕ, ◌^◌, ◌<◌, ◌≤◌, Bool, true, false, cond, not, ◌&&◌, eqb, List, ◌++◌, sym, refl, ap, ◌∙◌, subst, inl, arith}
 use native.Mathlib.Decide.{ℕ_discrete}
 use Rattle.std.proofs.lemmas.Bool.Decides.{nat_tests}
 use Rattle.std.proofs.lemmas.Bool.{eq-eqb, ne_eqb}
-use Rattle.trees.specs.Tree.{Tree, is_in}
-use Rattle.bridges.specs.Net.{Copy, Where, Unknown, Here, Behind, Got, World, Found, NoTree, This, tree_of, came_by, not_back, toward, knows, at}
+use Rattle.trees.specs.Tree.{Tree}
+use Rattle.bridges.specs.Net.{Copy, World, Found, This, came_by, not_back, toward, knows}
 use Rattle.bridges.specs.Fabric.{Event, handed, goes_by, forward}
 use Rattle.fdb.specs.declared.entry.Entry.{Entry}
 use Rattle.fdb.specs.Entries.{put}
-use Rattle.fdb.specs.Contents.{Contents, learned, next}
-use Rattle.ports.specs.Ports.{Kind, ports_of, none_below}
-use Rattle.ports.specs.Places.{Place, Nowhere, AtPort, Toward, Came, ByPort, ByBridge, sender, place_at, not_to_bridge}
+use Rattle.fdb.specs.Contents.{Contents, next}
+use Rattle.ports.specs.Ports.{ports_of}
+use Rattle.ports.specs.Places.{Place, Nowhere, Came, ByPort, ByBridge, sender, place_at, not_to_bridge}
 use Rattle.ports.specs.Outward.{out_by}
 use Rattle.forwarding.specs.State.{Slot, State, is_tree, look_in, heard_in, goes_out}
-use Rattle.forwarding.specs.Replies.{Way, Refuse, Newest, Older, after, goes}
-use Rattle.network.specs.Network.{Network, Plug, rules, vlan_of, is_here, sent_on, getters, locate, handled}
-use Rattle.network.specs.Simulation.{held_by, numbers, place_in, where_is, home_of, Simulates}
-use Rattle.network.proofs.Tests.{by-test, by-eq}
-use Rattle.network.proofs.Tables.{look, Fades, look-put, learned-fades, learned-keeps}
+use Rattle.forwarding.specs.Replies.{Way, Newest, Older, after, goes}
+use Rattle.network.specs.Network.{Network, rules, sent_on, getters, locate, handled}
+use Rattle.network.specs.Simulation.{place_in, where_is, home_of, Simulates}
+use Rattle.network.proofs.Tests.{by-test}
+use Rattle.network.proofs.Tables.{look, look-put, learned-fades, learned-keeps}
 use Rattle.network.proofs.Worlds.{follow}
 use Rattle.network.proofs.Onward.{none-beyond, sent-so}
 use Rattle.network.proofs.Handing.{getters-so}
-use Rattle.network.proofs.Standing.{Stands, StandsOf, stands, with_bridge, bridge-same, View, whole, homes-stay}
+use Rattle.network.proofs.Standing.{Stands, stands, with_bridge, bridge-same, whole, homes-stay}
 use Rattle.network.proofs.Learning.{with_tables, forgetting}
 
 pub place-came : (came : Came) → place_at (locate came) ≡ sender came

@@ -1,62 +1,22 @@
 -- The record of what the code must be, filled with a bridge's memory as `forwarding` has it: its two trees and their tables. That record knows no ports: every two bridges may be linked, and who is at a bridge is heard there. So here
 -- all stations come by port 0, and copies and hand-overs are told in the record's own words, which also cover a frame to its own sender; that the ports of a bridge give the same is shown in Onward and Handing. The record adopts its
 -- newest tree once more, and has no clock: so it is here.
-use Rattle.std.proofs.Common.{◌≡◌, ℕ, zero, suc, ◌^◌, ◌<◌, Bool, true, false, cond, not, ◌&&◌, ◌||◌, T, eqb, ltb, ◌⊎◌, List, [], ◌∷◌, ◌++◌, sym, refl, ap, ◌∙◌, subst, inl, inr, arith}
+use Rattle.std.proofs.Common.{◌≡◌, ℕ, zero, suc, ◌^◌, ◌<◌, Bool, true, false, cond, not, ◌&&◌, ◌||◌, T, eqb, ltb, List, [], ◌∷◌, ◌++◌, sym, refl, ap, ◌∙◌, subst, inl, inr, arith}
 use native.Mathlib.Decide.{ℕ_discrete}
 use Rattle.std.proofs.lemmas.Bool.Decides.{nat_tests}
-use Rattle.std.proofs.lemmas.Bool.{eq-eqb, ne_eqb, or_from}
-use Rattle.trees.specs.Tree.{Tree, looks, joined, is_in}
-use Rattle.bridges.specs.Net.{
-  Copy,
-  Where,
-  Unknown,
-  Here,
-  Behind,
-  Got,
-  Rules,
-  World,
-  Found,
-  NoTree,
-  This,
-  tree_of,
-  came_by,
-  not_back,
-  copy_to,
-  floods,
-  toward,
-  may_get,
-  gets,
-  knows,
-  learns,
-  handle,
-  two,
-  send_by,
-  take_if,
-  announce_if,
-  start,
-  step,
-  first_of,
-  Ev,
-  Sends,
-  Comes,
-  Lost,
-  Link,
-  Announced,
-  Takes,
-  Moves,
-  Forgets,
-  Falls,
-}
+use Rattle.std.proofs.lemmas.Bool.{eq-eqb, ne_eqb}
+use Rattle.trees.specs.Tree.{Tree, looks, is_in}
+use Rattle.bridges.specs.Net.{Copy, Where, Unknown, Here, Behind, Got, Rules, World, Found, NoTree, This, tree_of, came_by, floods, toward, may_get, gets, knows, learns, handle, two, send_by, take_if, announce_if, start, step, first_of, Ev, Sends, Comes, Lost, Link, Announced, Takes, Moves, Forgets, Falls}
 use Rattle.bridges.specs.Code.{View, Stands, steps, only_forgets, is_comes, is_takes_of, there, Code}
 use Rattle.std.proofs.lemmas.Bool.{cond_both}
 use Rattle.fdb.specs.Entries.{find, without}
 use Rattle.fdb.specs.Contents.{Contents, empty}
-use Rattle.ports.specs.Places.{Place, Nowhere, AtPort, Toward, Came, ByPort, ByBridge, sender}
+use Rattle.ports.specs.Places.{Place, Nowhere, Came, ByPort, ByBridge, sender}
 use Rattle.forwarding.specs.State.{Slot, State, is_tree, look_in, heard_in, started, crashed}
-use Rattle.forwarding.specs.Replies.{Way, Newest, Older, none, after}
+use Rattle.forwarding.specs.Replies.{Newest, Older, none, after}
 use Rattle.network.specs.Network.{Plug, rules, locate}
-use Rattle.network.specs.Simulation.{tree_in, held_by, numbers, place_in, where_is}
-use Rattle.network.proofs.Tests.{by-test, by-eq}
+use Rattle.network.specs.Simulation.{held_by, numbers, place_in, where_is}
+use Rattle.network.proofs.Tests.{by-test}
 use Rattle.network.proofs.Tables.{look, Fades, look-without, learned-fades, learned-here}
 use Rattle.network.proofs.Worlds.{relearnt, forgot_in}
 use Rattle.network.proofs.Learning.{with_tables, gone_from, gone-told, tables-fade}

@@ -1,15 +1,15 @@
 -- The stations that a bridge's answer hands a frame to are those that get it in the net of the promise.
-use Rattle.std.proofs.Common.{◌≡◌, ℕ, zero, suc, ◌<◌, ◌≤◌, Bool, true, false, cond, not, ◌&&◌, ◌||◌, eqb, ltb, List, [], ◌∷◌, ◌++◌, sym, refl, ap, ◌∙◌, subst, arith}
+use Rattle.std.proofs.Common.{◌≡◌, ℕ, zero, suc, ◌<◌, Bool, true, false, cond, not, ◌&&◌, ◌||◌, eqb, ltb, List, [], ◌∷◌, sym, refl, ap, ◌∙◌, subst, arith}
 use native.Mathlib.Decide.{ℕ_discrete}
 use Rattle.std.proofs.lemmas.Bool.Decides.{nat_tests}
 use Rattle.std.proofs.lemmas.Bool.{eq-eqb, ne_eqb, and_right}
 use Rattle.trees.specs.Tree.{Tree}
-use Rattle.bridges.specs.Net.{Copy, Where, Unknown, Here, Behind, Got, World, may_get}
+use Rattle.bridges.specs.Net.{Copy, Here, Behind, Got, World}
 use Rattle.bridges.specs.Fabric.{may_hand, handed}
 use Rattle.ports.specs.Ports.{Kind, ports_of, onward}
 use Rattle.ports.specs.Places.{Place, Nowhere, AtPort, Toward, Came, ByPort, ByBridge, not_by_port}
 use Rattle.ports.specs.Outward.{serves, may_go_to, out_by}
-use Rattle.network.specs.Network.{Network, Plug, rules, vlan_of, is_here, getters, reaches, came_by_port}
+use Rattle.network.specs.Network.{Network, rules, vlan_of, is_here, getters, reaches, came_by_port}
 use Rattle.network.specs.Simulation.{where_is, home_of}
 use Rattle.network.proofs.Tests.{by-test}
 

@@ -1,23 +1,21 @@
 -- A bridge forgets stations, for age or for want of room.
-use Rattle.std.proofs.Common.{◌≡◌, ℕ, ◌<◌, Bool, true, false, cond, not, ◌&&◌, ◌||◌, eqb, ltb, ◌⊎◌, List, [], ◌∷◌, ◌++◌, is_some, Some, None, Option, sym, refl, ap, ◌∙◌, subst, inl, inr, arith}
-use mathlib.Core.List.{Memᴰ}
+use Rattle.std.proofs.Common.{◌≡◌, ℕ, ◌<◌, Bool, true, false, cond, ◌&&◌, List, ◌++◌, is_some, Some, None, Option, sym, refl, ap, ◌∙◌, subst, inl, inr, arith}
 use Rattle.std.proofs.lemmas.Bool.Decides.{nat_tests}
 use Rattle.std.proofs.lemmas.Bool.{eq-eqb, ne_eqb}
-use Rattle.trees.specs.Tree.{Tree, is_in}
-use Rattle.bridges.specs.Net.{Copy, Where, Unknown, Here, Behind, Got, World, Found, NoTree, This, tree_of, at}
+use Rattle.trees.specs.Tree.{is_in}
+use Rattle.bridges.specs.Net.{Where, Unknown, World, Found, NoTree, This}
 use Rattle.bridges.specs.Fabric.{Event}
 use Rattle.fdb.specs.declared.entry.Entry.{Entry}
 use Rattle.fdb.specs.Entries.{find}
 use Rattle.fdb.specs.Contents.{Contents}
-use Rattle.ports.specs.Ports.{ports_of, none_below}
 use Rattle.ports.specs.Places.{Place, Nowhere, AtPort, Toward}
 use Rattle.forwarding.specs.State.{Slot, State, is_tree, look_in}
-use Rattle.network.specs.Network.{Network, Plug, rules}
-use Rattle.network.specs.Simulation.{held_by, numbers, place_in, where_is, home_of, Simulates}
-use Rattle.network.proofs.Tests.{by-test, by-eq}
+use Rattle.network.specs.Network.{Network, Plug}
+use Rattle.network.specs.Simulation.{place_in, where_is, Simulates}
+use Rattle.network.proofs.Tests.{by-test}
 use Rattle.network.proofs.Tables.{look, found, Fades, nowhere, gone, gone-so}
 use Rattle.network.proofs.Worlds.{follow, follow-append, relearnt, forgets_in, forgot_in, forgets-so}
-use Rattle.network.proofs.Standing.{Stands, StandsOf, with_bridge, View, view, whole, homes-stay}
+use Rattle.network.proofs.Standing.{with_bridge, View, view, whole, homes-stay}
 
 -- a bridge with other tables
 abbrev pub with_tables : State → Contents → Contents → State

@@ -1,16 +1,16 @@
 -- The copies that go on by the ports of a bridge's answer are those that go on in the net of the promise.
-use Rattle.std.proofs.Common.{◌≡◌, ℕ, zero, suc, ◌<◌, ◌≤◌, Bool, true, false, cond, not, ◌&&◌, ◌||◌, eqb, ltb, ◌⊎◌, List, [], ◌∷◌, ◌++◌, get_or, sym, refl, ap, ◌∙◌, subst, inl, inr, arith}
+use Rattle.std.proofs.Common.{◌≡◌, ℕ, zero, suc, ◌<◌, ◌≤◌, Bool, true, false, cond, not, ◌&&◌, ◌||◌, eqb, ltb, List, [], ◌∷◌, get_or, sym, refl, ap, ◌∙◌, subst, inl, inr, arith}
 use mathlib.Core.List.Memᴰ
 use mathlib.Core.List.{Memᴰ}
 use native.Mathlib.Decide.{ℕ_discrete}
 use Rattle.std.proofs.lemmas.Bool.Decides.{nat_tests}
 use Rattle.std.proofs.lemmas.Bool.{eq-eqb, ne_eqb, lt-ltb, le-ltb, cond_both}
 use Rattle.trees.specs.Tree.{Tree, joined}
-use Rattle.bridges.specs.Net.{Copy, Where, Unknown, Here, Behind, not_back, copy_to, floods, toward}
+use Rattle.bridges.specs.Net.{Copy, Here, Behind, not_back, copy_to, floods, toward}
 use Rattle.ports.specs.declared.port.Port.{Port}
 use Rattle.ports.specs.declared.port.Port.TheVariants.{Unused, Access, Trunk}
 use Rattle.ports.specs.Ports.{Kind, Idle, ToStations, ToBridge, kind_of, ports_of, leads_to, none_below, onward_by}
-use Rattle.ports.specs.Places.{Place, Nowhere, AtPort, Toward, Came, ByPort, ByBridge, not_by_port, not_to_bridge}
+use Rattle.ports.specs.Places.{Place, Nowhere, AtPort, Toward, Came, not_by_port, not_to_bridge}
 use Rattle.ports.specs.Outward.{serves, may_go_to, out_by}
 use Rattle.network.specs.Network.{Plug, passes, sent_on}
 use Rattle.network.specs.Simulation.{where_is}

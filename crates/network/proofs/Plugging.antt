@@ -1,21 +1,19 @@
 -- A station is plugged in somewhere else: what bridges know of it at a port of theirs is then right, or a dead end.
-use Rattle.std.proofs.Common.{◌≡◌, ℕ, zero, suc, ◌<◌, ◌≤◌, Bool, true, false, cond, not, ◌&&◌, ◌||◌, eqb, ltb, List, [], ◌∷◌, ◌++◌, sym, refl, ap, ◌∙◌, subst, arith}
-use mathlib.Core.List.{Memᴰ}
+use Rattle.std.proofs.Common.{◌≡◌, ℕ, zero, suc, ◌<◌, ◌≤◌, Bool, true, false, cond, ◌&&◌, eqb, ltb, List, [], ◌∷◌, ◌++◌, sym, refl, ap, ◌∙◌, subst, arith}
 use native.Mathlib.Decide.{ℕ_discrete}
 use Rattle.std.proofs.lemmas.Bool.Decides.{nat_tests}
-use Rattle.std.proofs.lemmas.Bool.{eq-eqb, ne_eqb, lt-ltb, le-ltb}
-use Rattle.trees.specs.Tree.{Tree}
-use Rattle.bridges.specs.Net.{Copy, Where, Unknown, Here, Behind, Got, World, Found, NoTree, This, tree_of, at}
-use Rattle.bridges.specs.Fabric.{Event, Move, Turn, happen, turned}
-use Rattle.ports.specs.Ports.{ports_of, none_below}
+use Rattle.std.proofs.lemmas.Bool.{eq-eqb, ne_eqb}
+use Rattle.bridges.specs.Net.{Where, Here, Behind, World, Found, NoTree, This, at}
+use Rattle.bridges.specs.Fabric.{Event, Move, Turn, turned}
+use Rattle.ports.specs.Ports.{ports_of}
 use Rattle.ports.specs.Outward.{serves}
 use Rattle.ports.specs.Places.{Place, Nowhere, AtPort, Toward}
-use Rattle.forwarding.specs.State.{Slot, State, is_tree, look_in}
-use Rattle.network.specs.Network.{Network, Plug, rules, vlan_of}
-use Rattle.network.specs.Simulation.{held_by, numbers, place_in, where_is, home_of, Simulates}
+use Rattle.forwarding.specs.State.{State, is_tree, look_in}
+use Rattle.network.specs.Network.{Network, Plug, vlan_of}
+use Rattle.network.specs.Simulation.{place_in, where_is, home_of, Simulates}
 use Rattle.network.proofs.Tests.{by-test, by-eq}
 use Rattle.network.proofs.Worlds.{follow, follow-append, relearnt}
-use Rattle.network.proofs.Standing.{Stands, StandsOf, stands, simulates}
+use Rattle.network.proofs.Standing.{Stands, stands, simulates}
 
 -- is the port that a bridge knows the one where the station is now
 abbrev is_there : ℕ → Plug → ℕ → Bool

@@ -1,21 +1,19 @@
 -- Whatever a net of bridges does, the net of the promise does too, in a few events; so all that is promised there holds of it.
-use Rattle.std.proofs.Common.{◌≡◌, ℕ, zero, suc, ◌^◌, ◌<◌, ◌≤◌, Bool, true, false, cond, not, ◌&&◌, ◌||◌, eqb, ltb, ◌⊎◌, List, [], ◌∷◌, ◌++◌, length, sym, refl, ap, ◌∙◌, subst, inl, inr, arith}
+use Rattle.std.proofs.Common.{◌≡◌, ℕ, ◌<◌, Bool, true, false, cond, not, ◌&&◌, ltb, List, [], ◌∷◌, ◌++◌, sym, refl, ap, ◌∙◌, subst, inl, inr}
 use mathlib.Core.List.Memᴰ
-use mathlib.Core.List.{Memᴰ}
 use Rattle.std.proofs.lemmas.Bool.{lt-ltb, ltb-false, cond_both}
 use Rattle.trees.specs.Tree.{Tree, looks}
-use Rattle.bridges.specs.Net.{Copy, Got, World, Found, NoTree, This, tree_of, without, at}
-use Rattle.bridges.specs.Fabric.{Event, Announce, Adopt, Crash, Lose, happen, begin, run}
+use Rattle.bridges.specs.Net.{World, This, tree_of, without}
+use Rattle.bridges.specs.Fabric.{Event, Announce, Adopt, Crash, Lose, begin, run}
 use Rattle.bridges.proofs.Guaranteed.{guaranteed}
 use Rattle.fdb.specs.Entries.{find}
-use Rattle.fdb.specs.Contents.{Contents, empty, aged}
+use Rattle.fdb.specs.Contents.{empty, aged}
 use Rattle.ports.specs.declared.port.Port.{Port}
 use Rattle.ports.specs.Ports.{ports_of, none_below}
-use Rattle.forwarding.specs.State.{Slot, State, is_tree, adopted, look_in, aged_state, started}
-use Rattle.forwarding.specs.Replies.{none}
-use Rattle.network.specs.Network.{Network, Plug, rules, vlan_of, begins, Steps, announces, adopts, links, ages, crashes, plugs, sends, comes, loses, Reached, first, then}
-use Rattle.network.specs.Simulation.{Simulates, RunsAsNet, GoesOnAsNet, numbers, home_of, where_is, place_in}
-use Rattle.network.proofs.Tables.{look, Fades, remembered-fades}
+use Rattle.forwarding.specs.State.{is_tree, adopted}
+use Rattle.network.specs.Network.{Network, rules, begins, Steps, announces, adopts, links, ages, crashes, plugs, sends, comes, loses, Reached, first, then}
+use Rattle.network.specs.Simulation.{Simulates, RunsAsNet, GoesOnAsNet, numbers}
+use Rattle.network.proofs.Tables.{remembered-fades}
 use Rattle.network.proofs.Onward.{none-beyond}
 use Rattle.network.proofs.Tests.{by-test}
 use Rattle.network.proofs.Worlds.{follow, run-follow, believed, believes_up_to, believes-up-to}
@@ -24,7 +22,7 @@ use Rattle.network.proofs.Learning.{with_tables, forgetting}
 use Rattle.network.proofs.Changes.{announcing, crashing, adopting, linking}
 use Rattle.network.proofs.Plugging.{plugging}
 use Rattle.network.proofs.Arriving.{coming, sending, has-tree}
-use Rattle.network.proofs.Steady.{Kept, Steady, steady}
+use Rattle.network.proofs.Steady.{Steady, steady}
 
 as-it-is : (n : Network) (w : World) (b : ℕ) → Simulates n w → Simulates (with_bridge n b (n.bridge b)) w
 as-it-is n w b i = subst (λ m. Simulates m w) (sym (bridge-same n b)) i

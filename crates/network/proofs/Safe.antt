@@ -1,8 +1,6 @@
 -- What is promised, in the net's own words.
-use Rattle.std.proofs.Common.{◌≡◌, ℕ, ◌≤◌, Bool, true, false, List, [], ◌∷◌, ◌++◌, sym, refl, ap, ◌∙◌, subst}
+use Rattle.std.proofs.Common.{◌≡◌, ◌≤◌, true, false, List, sym, ap, ◌∙◌, subst}
 use mathlib.Core.List.{Memᴰ}
-use Rattle.trees.specs.Tree.{different}
-use Rattle.bridges.specs.Net.{Copy, Got}
 use Rattle.bridges.specs.Promise.{count_got}
 use Rattle.bridges.specs.Fabric.{Event, run}
 use Rattle.bridges.specs.Guarantee.{Assured, sent_by}

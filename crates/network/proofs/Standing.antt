@@ -1,14 +1,13 @@
 -- That a net stands for a world, taken apart by bridges: what one bridge does leaves all others as they were.
-use Rattle.std.proofs.Common.{◌≡◌, ℕ, ◌<◌, Bool, true, false, cond, not, ◌&&◌, ◌||◌, eqb, ltb, List, [], ◌∷◌, ◌++◌, sym, refl, ap, ◌∙◌, subst, arith}
+use Rattle.std.proofs.Common.{◌≡◌, ℕ, ◌<◌, Bool, cond, not, ◌&&◌, eqb, ltb, List, refl, ap, subst}
 use mathlib.Core.List.{Memᴰ}
-use Rattle.std.proofs.lemmas.Bool.Decides.{nat_tests}
 use Rattle.std.proofs.lemmas.Bool.{eq-eqb, ne_eqb}
 use Rattle.trees.specs.Tree.{Tree}
-use Rattle.bridges.specs.Net.{Copy, Where, Got, World, This, tree_of, at}
+use Rattle.bridges.specs.Net.{Where, World, This, tree_of, at}
 use Rattle.ports.specs.Ports.{ports_of, none_below}
 use Rattle.ports.specs.Outward.{serves}
 use Rattle.forwarding.specs.State.{State}
-use Rattle.network.specs.Network.{Network, Plug, vlan_of, is_here}
+use Rattle.network.specs.Network.{Network, Plug, vlan_of}
 use Rattle.network.specs.Simulation.{held_by, numbers, place_in, where_is, home_of, Simulates}
 use Rattle.network.proofs.Tests.{by-eq}
 

@@ -1,9 +1,9 @@
 -- What stays true of a net of bridges by itself: each has its own number, its tables are in order, it has no older tree without a newest one, and copies are under way from a bridge to a bridge.
-use Rattle.std.proofs.Common.{◌≡◌, ℕ, suc, ◌<◌, Bool, true, false, cond, not, ◌&&◌, ◌||◌, eqb, ltb, ◌⊎◌, List, [], ◌∷◌, ◌++◌, set, Option, sym, refl, ap, ◌∙◌, subst, inl, inr, arith}
+use Rattle.std.proofs.Common.{◌≡◌, ℕ, suc, ◌<◌, Bool, true, cond, List, ◌∷◌, ◌++◌, Option, sym, refl, subst, inl, inr, arith}
 use mathlib.Core.List.Memᴰ
 use mathlib.Core.List.{Memᴰ}
 use Rattle.trees.specs.Tree.{Tree}
-use Rattle.bridges.specs.Net.{Copy, Found, NoTree, This, copy_to, without, at}
+use Rattle.bridges.specs.Net.{Copy, copy_to, without, at}
 use Rattle.std.proofs.lemmas.Bool.{cond_both}
 use Rattle.bridges.proofs.Changes.{without-mem}
 use Rattle.fdb.specs.declared.entry.Location.{Location}
@@ -11,11 +11,11 @@ use Rattle.fdb.specs.Entries.{ascending}
 use Rattle.fdb.proofs.Ordered.{learned-ascending, ascending-remembered}
 use Rattle.ports.specs.declared.port.Port.{Port}
 use Rattle.ports.specs.declared.port.Link.{Link}
-use Rattle.ports.specs.Ports.{Kind, ports_of}
+use Rattle.ports.specs.Ports.{Kind}
 use Rattle.ports.specs.Places.{Came, ByPort}
-use Rattle.forwarding.specs.State.{Slot, State, is_tree, adopted, aged_state, crashed, started, linked}
-use Rattle.forwarding.specs.Replies.{Way, Refuse, Newest, Older, none, after, goes, may_link, relinked}
-use Rattle.network.specs.Network.{Network, Plug, begins, Steps, announces, adopts, links, ages, crashes, plugs, sends, comes, loses, Reached, first, then, sent_on, handled, locate, first_copy, track_of, came_from}
+use Rattle.forwarding.specs.State.{State, is_tree, adopted, aged_state, crashed, started, linked}
+use Rattle.forwarding.specs.Replies.{Way, Refuse, Newest, Older, none, after, may_link, relinked}
+use Rattle.network.specs.Network.{Network, Steps, announces, adopts, links, ages, crashes, plugs, sends, comes, loses, Reached, first, then, sent_on, handled, locate, first_copy, track_of, came_from}
 use Rattle.network.proofs.Tests.{by-eq}
 use Rattle.network.proofs.Onward.{sent-mem}
 

@@ -1,17 +1,16 @@
 -- A net of bridges, each of which does what the code's contracts say, with stations plugged into their ports and copies of frames under way between them; and everything that can happen to it. Assumes nothing.
-use Rattle.std.specs.Prelude.{◌≡◌, ℕ, zero, suc, ◌%◌, ◌^◌, ◌<◌, ◌≤◌, Bool, true, false, cond, not, ◌&&◌, ◌||◌, List, [], ◌∷◌, ◌++◌, length, Option, ◌==◌}
-use mathlib.Core.List.{Memᴰ}
+use Rattle.std.specs.Prelude.{◌≡◌, ℕ, zero, suc, ◌%◌, ◌^◌, ◌<◌, Bool, true, false, cond, not, ◌&&◌, ◌||◌, List, [], ◌∷◌, ◌++◌, Option, ◌==◌}
 use Rattle.trees.specs.Tree.{Tree, looks}
-use Rattle.bridges.specs.Net.{Frame, Copy, Where, Unknown, Here, Behind, Got, Rules, World, Found, NoTree, This, tree_of, without, copy_to, at}
+use Rattle.bridges.specs.Net.{Copy, Got, Rules, Found, NoTree, This, tree_of, without, copy_to, at}
 use Rattle.fdb.specs.declared.entry.Location.{Location}
 use Rattle.fdb.specs.declared.entry.Location.TheVariants as location
 use Rattle.ports.specs.declared.port.Port.{Port}
 use Rattle.ports.specs.declared.port.Link.{Link}
-use Rattle.ports.specs.Ports.{Kind, Idle, ToStations, ToBridge, ports_of, leads_to, none_below}
+use Rattle.ports.specs.Ports.{Kind, ports_of, leads_to}
 use Rattle.ports.specs.Places.{Place, Nowhere, AtPort, Toward, Came, ByPort, ByBridge}
 use Rattle.ports.specs.Outward.{serves}
-use Rattle.forwarding.specs.State.{Slot, State, is_tree, look_in, started, adopted, aged_state, crashed}
-use Rattle.forwarding.specs.Replies.{Way, Refuse, Newest, Older, none, vlan_at, station_way, after, goes, relinked}
+use Rattle.forwarding.specs.State.{State, is_tree, look_in, started, adopted, aged_state, crashed}
+use Rattle.forwarding.specs.Replies.{Way, Refuse, Newest, Older, none, after, goes, relinked}
 use Rattle.forwarding.specs.declared.fault.Fault.TheVariants as fault
 
 -- the VLAN of a station, by its number

@@ -1,15 +1,15 @@
 -- That a net of bridges that do what the code's contracts say is a run of the net of the promise. Assumes nothing.
-use Rattle.std.specs.Prelude.{◌≡◌, ℕ, zero, suc, ◌<◌, ◌≤◌, Bool, true, false, cond, not, ◌&&◌, ◌||◌, List, [], ◌∷◌, ◌++◌, ◌==◌, nat_lt}
+use Rattle.std.specs.Prelude.{◌≡◌, ℕ, ◌<◌, ◌≤◌, true, false, cond, not, ◌&&◌, List, [], ◌∷◌, ◌++◌, ◌==◌, nat_lt}
 use mathlib.Core.List.{Memᴰ}
 use Rattle.trees.specs.Tree.{Tree, different}
-use Rattle.bridges.specs.Net.{Frame, Copy, Where, Unknown, Here, Behind, Got, Rules, World, Found, NoTree, This, tree_of}
+use Rattle.bridges.specs.Net.{Copy, Where, Unknown, Here, Behind, Got, World, Found, NoTree, This, tree_of}
 use Rattle.bridges.specs.Promise.{count_got}
 use Rattle.bridges.specs.Fabric.{Event, run}
-use Rattle.bridges.specs.Guarantee.{Assured, count_all, sent_by}
+use Rattle.bridges.specs.Guarantee.{Assured}
 use Rattle.ports.specs.declared.port.Port.{Port}
 use Rattle.ports.specs.Ports.{ports_of, none_below}
 use Rattle.ports.specs.Places.{Place, Nowhere, AtPort, Toward}
-use Rattle.forwarding.specs.State.{Slot, State, is_tree, look_in}
+use Rattle.forwarding.specs.State.{State, is_tree, look_in}
 use Rattle.network.specs.Network.{Network, Plug, rules, vlan_of, is_here, Steps, Reached}
 
 -- the trees that a bridge holds, the newest first

@@ -1,11 +1,11 @@
 -- What leaves next: the lowest bridge for which anything waits, and the first kind of which anything waits.
-use Rattle.std.proofs.Common.{◌≡◌, ℕ, zero, suc, ◌+◌, ◌<◌, ◌≤◌, Bool, true, false, cond, ◌&&◌, eqb, ltb, Some, None, Option, sym, refl, ap, ◌∙◌, arith}
+use Rattle.std.proofs.Common.{◌≡◌, ℕ, zero, suc, ◌+◌, ◌<◌, ◌≤◌, true, false, cond, Some, None, Option, refl, ap, ◌∙◌, arith}
 use native.Mathlib.Decide.{ℕ_discrete, dec_lt}
 use Rattle.std.proofs.lemmas.Bool.Decides.{nat_tests}
 use Rattle.std.specs.Option.{option_map}
 use Rattle.sets.specs.Sets.{has}
 use Rattle.pending.specs.Tables.{member, First}
-use Rattle.pending.specs.Waits.{Waits, Message, or_else, lowest, link_acks_for, tree_acks_for, link_states_for, trees_for, next_of}
+use Rattle.pending.specs.Waits.{Waits, Message, lowest, link_acks_for, tree_acks_for, link_states_for, trees_for, next_of}
 
 from : (f : ℕ → Option Message) (k n b : ℕ) (m : Message) → k ≤ b → b < k + n → f b ≡ Some m → ((j : ℕ) → j < b → f j ≡ None) → lowest f k n ≡ Some m
 unfolding lowest

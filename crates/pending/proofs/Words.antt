@@ -1,13 +1,12 @@
 -- The message that leaves is the first of all that wait, and of acknowledgements only the newest wait.
-use Rattle.std.proofs.Common.{◌≡◌, ℕ, zero, suc, ◌+◌, ◌<◌, ◌≤◌, Bool, true, false, cond, ◌&&◌, ◌||◌, eqb, ltb, ◌⊎◌, List, [], ◌∷◌, Some, None, Option, sym, refl, ap, ◌∙◌, subst, inl, inr, arith, eq-eqb}
+use Rattle.std.proofs.Common.{◌≡◌, ℕ, zero, suc, ◌+◌, ◌<◌, ◌≤◌, Bool, true, false, cond, ◌⊎◌, List, [], ◌∷◌, Some, None, Option, sym, refl, ap, ◌∙◌, subst, inl, inr, arith, eq-eqb}
 use mathlib.Core.List.Memᴰ
 use mathlib.Core.List.{Memᴰ}
 use native.Mathlib.Decide.{ℕ_discrete, dec_lt}
 use Rattle.std.proofs.lemmas.Bool.Decides.{nat_tests}
-use Rattle.pending.specs.Tables.{noted, newest}
+use Rattle.pending.specs.Tables.{noted}
 use Rattle.pending.specs.Acks.{later, higher}
-use Rattle.pending.specs.declared.link_acks.Version.{Version}
-use Rattle.pending.specs.Waits.{Waits, Message, Hello, or_else, lowest, link_acks_for, tree_acks_for, link_states_for, trees_for, next_of}
+use Rattle.pending.specs.Waits.{Waits, Message, or_else, lowest}
 use Rattle.pending.specs.Words.{at, LowestFirst, NoneLeft, note_all, OnlyNewest, OnlyTheNewest}
 
 apart : {m : Message} {A : Type 0} → ◌≡◌ {A = Option Message} None (Some m) → A

@@ -1,5 +1,5 @@
 -- What waits to be sent by a port, what leaves next, and what then waits.
-use Rattle.std.specs.Prelude.{◌≡◌, ℕ, zero, suc, ◌+◌, Bool, true, false, cond, not, ◌&&◌, ◌||◌, Some, None, Option, ◌==◌}
+use Rattle.std.specs.Prelude.{ℕ, zero, suc, ◌+◌, Bool, true, false, cond, not, ◌&&◌, ◌||◌, Some, None, Option, ◌==◌}
 use Rattle.std.specs.Option.{option_map}
 use Rattle.pending.specs.declared.link_acks.Version.{Version}
 use Rattle.pending.specs.declared.messages.Pending.{Pending}
@@ -49,8 +49,15 @@ with_tree_ack a n w = record { hello = w.hello; link_ack = w.link_ack; tree_ack 
 abbrev pub with_link_state : ℕ → Waits → Waits
 with_link_state b w = record { hello = w.hello; link_ack = w.link_ack; tree_ack = w.tree_ack; link_state = λ k. (k == b) || w.link_state k; tree = w.tree }
 
+-- the same of each bridge in a set of bits
+abbrev pub with_link_states : ℕ → Waits → Waits
+with_link_states bits w = record { hello = w.hello; link_ack = w.link_ack; tree_ack = w.tree_ack; link_state = λ k. member bits k || w.link_state k; tree = w.tree }
+
 abbrev pub with_tree : ℕ → Waits → Waits
 with_tree a w = record { hello = w.hello; link_ack = w.link_ack; tree_ack = w.tree_ack; link_state = w.link_state; tree = λ k. (k == a) || w.tree k }
+
+abbrev pub with_trees : ℕ → Waits → Waits
+with_trees bits w = record { hello = w.hello; link_ack = w.link_ack; tree_ack = w.tree_ack; link_state = w.link_state; tree = λ k. member bits k || w.tree k }
 
 abbrev pub without : Message → Waits → Waits
 without Hello w = record { hello = false; link_ack = w.link_ack; tree_ack = w.tree_ack; link_state = w.link_state; tree = w.tree }

@@ -1,9 +1,8 @@
 -- What the rules come to: which message leaves first, and that only the newest acknowledgement does.
-use Rattle.std.specs.Prelude.{◌≡◌, ℕ, zero, suc, ◌<◌, ◌≤◌, Bool, true, false, ◌⊎◌, List, [], ◌∷◌, Some, None, Option}
+use Rattle.std.specs.Prelude.{◌≡◌, ℕ, zero, suc, ◌<◌, ◌≤◌, Bool, false, ◌⊎◌, List, [], ◌∷◌, Some, None, Option}
 use mathlib.Core.List.{Memᴰ}
 use Rattle.pending.specs.Tables.{noted}
 use Rattle.pending.specs.Acks.{later, higher}
-use Rattle.pending.specs.declared.link_acks.Version.{Version}
 use Rattle.pending.specs.Waits.{Waits, Message, next_of, hellos, link_acks_for, tree_acks_for, link_states_for, trees_for}
 
 -- The message of a kind for a bridge, if one waits: hellos are kind 0, acknowledgements of link states 1 and of trees 2, link states 3, trees 4.

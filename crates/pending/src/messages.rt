@@ -1,7 +1,7 @@
 // What waits to be sent by one port, and in which order it leaves.
 ghost use Rattle.std.specs.Prelude.{◌≡◌, true, false, is_some};
 ghost use Rattle.std.specs.Option.{option_map};
-ghost use Rattle.pending.specs.Waits.{Waits, nothing, waits, message_of, next_of, without, with_hello, with_link_state, with_tree, with_link_ack, with_tree_ack};
+ghost use Rattle.pending.specs.Waits.{Waits, nothing, waits, message_of, next_of, without, with_hello, with_link_state, with_link_states, with_tree, with_trees, with_link_ack, with_tree_ack};
 ghost use Rattle.pending.specs.Waits.{after_next};
 
 use crate::{Control, LinkAcks, TreeAcks, Version};
@@ -45,11 +45,25 @@ impl Pending {
         self.link_states = self.link_states.with(bridge);
     }
 
+    // The link states of these bridges are to be sent.
+    pub fn add_link_states(&mut self, bridges: BridgeSet)
+        ensures { waits self.new ≡ with_link_states bridges.bits (waits self.old) }
+    {
+        self.link_states = bridges.union(self.link_states);
+    }
+
     // The tree of this announcer is to be sent.
     pub fn add_tree(&mut self, announcer: BridgeId)
         ensures { waits self.new ≡ with_tree announcer.value (waits self.old) }
     {
         self.trees = self.trees.with(announcer);
+    }
+
+    // The trees of these announcers are to be sent.
+    pub fn add_trees(&mut self, announcers: BridgeSet)
+        ensures { waits self.new ≡ with_trees announcers.bits (waits self.old) }
+    {
+        self.trees = announcers.union(self.trees);
     }
 
     // A link state is to be acknowledged, unless one as new of the same bridge already is.

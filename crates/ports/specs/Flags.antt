@@ -1,5 +1,5 @@
 -- A flag for each port. Assumes nothing.
-use Rattle.std.specs.Prelude.{Bool, true, List, set, Some, None, Option, slice_set}
+use Rattle.std.specs.Prelude.{Bool, true, List, Some, None, Option, slice_set}
 use Rattle.ports.specs.declared.port.PortId.{PortId}
 
 -- the flags with that of a port set, if there is one

@@ -1,5 +1,5 @@
 -- By which ports a frame goes out, along a tree. Assumes nothing.
-use Rattle.std.specs.Prelude.{ℕ, Bool, true, false, ◌&&◌, ◌||◌, ◌==◌}
+use Rattle.std.specs.Prelude.{ℕ, Bool, false, ◌&&◌, ◌||◌, ◌==◌}
 use Rattle.trees.specs.Tree.{Tree, joined}
 use Rattle.ports.specs.Ports.{Kind, Idle, ToStations, ToBridge, onward}
 use Rattle.ports.specs.Places.{Place, Nowhere, AtPort, Toward, Came, not_by_port, not_to_bridge}

@@ -1,5 +1,5 @@
 -- Where a station is, along a tree, as a bridge knows it, and whence a frame came. Assumes nothing.
-use Rattle.std.specs.Prelude.{ℕ, Bool, true, false, not, Some, None, Option, ◌==◌}
+use Rattle.std.specs.Prelude.{ℕ, Bool, true, not, Some, None, Option, ◌==◌}
 use Rattle.fdb.specs.declared.entry.Location.{Location}
 use Rattle.fdb.specs.declared.entry.Location.TheVariants.{Here, Behind}
 use Rattle.ports.specs.declared.ingress.Ingress.{Ingress}

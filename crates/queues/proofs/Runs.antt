@@ -1,13 +1,13 @@
 -- Order, the budget of a tick, and messages first, over whatever happens at a port.
-use Rattle.std.proofs.Common.{◌≡◌, ℕ, ◌+◌, ◌<◌, ◌≤◌, Bool, true, false, cond, ltb, List, [], ◌∷◌, ◌++◌, length, take, drop, Some, None, Option, sym, refl, ap, ◌∙◌, subst, arith}
+use Rattle.std.proofs.Common.{◌≡◌, ℕ, ◌<◌, ◌≤◌, List, [], ◌∷◌, ◌++◌, take, drop, Some, None, Option, sym, refl, ap, ◌∙◌, subst, arith}
 use Rattle.std.proofs.lemmas.Bool.Decides.{nat_tests}
 use Rattle.std.proofs.lemmas.List.{append_assoc, append-nil}
 use Rattle.rows.specs.Events as row
 use Rattle.rows.specs.Events.{History, history, happens, begin}
 use Rattle.rows.proofs.Orders.{in_order}
-use Rattle.pending.specs.Waits.{Waits, Message, next_of}
+use Rattle.pending.specs.Waits.{Message, next_of}
 use Rattle.pending.proofs.Words.{none_left}
-use Rattle.queues.specs.Port.{Port, Output, Says, Carries, idle, out_of, out_from, frame_out, without_out, after_out}
+use Rattle.queues.specs.Port.{Port, Output, Says, Carries, idle, out_of, out_from, frame_out, without_out}
 use Rattle.queues.specs.Runs.{Event, Comes, Tells, Leaves, Ticks, Clears, step, run, frames_come, frames_out, leaving, frames_leave, counted, count, in_tick, PortOrder, Within64, MessagesFirst}
 
 -- what an output does to the row

@@ -1,5 +1,5 @@
 -- What waits at a port, what leaves next, and what then waits.
-use Rattle.std.specs.Prelude.{ℕ, ◌+◌, Bool, cond, List, [], ◌∷◌, ◌++◌, drop, Some, None, Option, nat_lt}
+use Rattle.std.specs.Prelude.{ℕ, ◌+◌, cond, List, [], ◌∷◌, ◌++◌, drop, Some, None, Option, nat_lt}
 use Rattle.rows.specs.Row.{waiting}
 use Rattle.rows.specs.Budget.{sent_of}
 use Rattle.pending.specs.Waits.{Waits, Message, nothing, waits, next_of, without}

@@ -1,8 +1,8 @@
 -- Over whatever happens to a row its frames keep their order, and none is lost unseen.
-use Rattle.std.proofs.Common.{◌≡◌, ℕ, zero, suc, ◌+◌, ◌<◌, ◌≤◌, Bool, true, false, cond, ◌&&◌, ltb, leb, List, [], ◌∷◌, ◌++◌, length, take, drop, sym, refl, ap, ◌∙◌, subst, arith, length-append, take-append-drop}
+use Rattle.std.proofs.Common.{◌≡◌, ℕ, ◌+◌, ◌<◌, ◌≤◌, Bool, true, false, cond, List, [], ◌∷◌, ◌++◌, length, take, drop, sym, refl, ap, ◌∙◌, subst, arith, length-append, take-append-drop}
 use Rattle.std.proofs.lemmas.Bool.Decides.{nat_tests}
 use Rattle.std.proofs.lemmas.List.{append_assoc, append-nil, length_push}
-use Rattle.rows.specs.Events.{Event, Comes, Leaves, Clears, takes, after, History, begin, happens, history, Among, none, but, too, InOrder, Accounted, NothingLost, NeverAbove16}
+use Rattle.rows.specs.Events.{Event, Comes, Leaves, Clears, takes, History, begin, happens, history, Among, none, but, too, InOrder, Accounted, NothingLost, NeverAbove16}
 
 abbrev Frames : Type 0
 Frames = List (List ℕ)

@@ -1,5 +1,5 @@
 -- The frames of a ring: how many, one more at the end, one less in front.
-use Rattle.std.proofs.Common.{◌≡◌, ℕ, zero, suc, ◌+◌, ◌-◌, ◌%◌, ◌<◌, ◌≤◌, Bool, true, false, ◌≢◌, List, [], ◌∷◌, ◌++◌, map, length, get_or, drop, set, IfSome, Some, None, Option, sym, refl, ap, ◌∙◌, subst, add-zero, add-one, arith, get_or-set_other, get_or-set_same, MutBor}
+use Rattle.std.proofs.Common.{◌≡◌, ℕ, zero, suc, ◌+◌, ◌-◌, ◌%◌, ◌<◌, Bool, true, false, ◌≢◌, List, [], ◌∷◌, ◌++◌, map, length, get_or, drop, set, IfSome, Some, None, Option, refl, ap, ◌∙◌, add-zero, add-one, arith, get_or-set_other, get_or-set_same, MutBor}
 use Rattle.std.proofs.lemmas.List.{set-set, map-set, length-map, get_or-map}
 use Rattle.rows.specs.Slot.{frame}
 use Rattle.rows.specs.Row.{frames_from}

@@ -1,5 +1,5 @@
 -- The frames that wait in a row, the one that came first in front.
-use Rattle.std.specs.Prelude.{ℕ, zero, suc, ◌+◌, ◌%◌, List, [], ◌∷◌, replicate, vec_items, slice_index_or}
+use Rattle.std.specs.Prelude.{ℕ, zero, suc, ◌+◌, ◌%◌, List, [], ◌∷◌, vec_items, slice_index_or}
 use Rattle.rows.specs.Slot.{frame}
 use Rattle.rows.specs.declared.row.Row.{Row}
 

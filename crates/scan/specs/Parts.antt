@@ -1,8 +1,7 @@
 -- What one word of a command means: a number, a port, a name, an address.
-use Rattle.std.specs.Prelude.{ℕ, suc, ◌+◌, ◌-◌, ◌*◌, ◌%◌, Bool, true, false, cond, not, ◌&&◌, ◌||◌, List, [], ◌∷◌, length, take, drop, Some, None, codes, fold, Option, ◌==◌, nat_lt, slice_index}
+use Rattle.std.specs.Prelude.{ℕ, ◌+◌, ◌-◌, ◌*◌, ◌%◌, Bool, cond, not, ◌&&◌, List, [], ◌∷◌, length, take, drop, Some, None, codes, fold, Option, ◌==◌, nat_lt, slice_index}
 use Rattle.std.specs.List.{prefix_len}
 use Rattle.std.specs.Str.{bytes_eq}
-use Rattle.scan.specs.declared.bytes.Kind.{Kind}
 use Rattle.scan.specs.declared.bytes.Kind.TheVariants.{Digit, BoxDigit, Letter}
 use Rattle.scan.specs.declared.parts.PortRef.{PortRef}
 use Rattle.scan.specs.Bytes.{all, between, is_of}

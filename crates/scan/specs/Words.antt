@@ -1,7 +1,6 @@
 -- The words of a line.
-use Rattle.std.specs.Prelude.{ℕ, Bool, cond, List, [], ◌∷◌, take, drop}
+use Rattle.std.specs.Prelude.{ℕ, cond, List, [], ◌∷◌, take, drop}
 use Rattle.std.specs.List.{prefix_len}
-use Rattle.scan.specs.declared.bytes.Kind.{Kind}
 use Rattle.scan.specs.declared.bytes.Kind.TheVariants.{Blank, Solid}
 use Rattle.scan.specs.Bytes.{blank, is_of}
 

@@ -4,7 +4,7 @@ use Rattle.wiring.specs.declared.boxes.Node.{Node}
 use Rattle.wiring.specs.Boxes.{number_at}
 use Rattle.ports.specs.Ports.{ports_of}
 use Rattle.forwarding.specs.declared.bridge.Bridge.{Bridge}
-use Rattle.forwarding.specs.State.{State, no_slot}
+use Rattle.forwarding.specs.State.{no_slot}
 use Rattle.forwarding.specs.Holding.{state_of}
 use Rattle.scenario.specs.Cables.{on_at, start_kind}
 use Rattle.scenario.specs.Links.{at_port}

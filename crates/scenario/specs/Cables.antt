@@ -1,5 +1,5 @@
 -- What the cables of a net are to the bridges in its boxes.
-use Rattle.std.specs.Prelude.{ℕ, Bool, true, false, cond, not, ◌&&◌, ◌||◌, List, Some, None, Option, ◌==◌, nat_lt}
+use Rattle.std.specs.Prelude.{ℕ, Bool, true, false, cond, ◌&&◌, List, Some, None, Option, ◌==◌, nat_lt}
 use Rattle.scan.specs.declared.parts.PortRef.{PortRef}
 use Rattle.wiring.specs.declared.boxes.Node.{Node}
 use Rattle.wiring.specs.declared.boxes.Power.{Power}

@@ -1,5 +1,5 @@
 -- Trees that were announced.
-use Rattle.std.specs.Prelude.{◌≡◌, ℕ, ◌+◌, ◌*◌, ◌^◌, ◌<◌, ◌≤◌, cond, List, [], ◌∷◌, ◌++◌, length, Some, None, Ok, Err, Option, Result, ◌==◌}
+use Rattle.std.specs.Prelude.{◌≡◌, ℕ, ◌+◌, ◌*◌, ◌^◌, ◌<◌, ◌≤◌, cond, List, [], ◌∷◌, ◌++◌, length, Some, Ok, Err, Option, Result, ◌==◌}
 use Rattle.wiring.specs.declared.boxes.Node.{Node}
 use Rattle.wiring.specs.Boxes.{number_at}
 use Rattle.trees.specs.declared.spanning_tree.Tree.{Tree}

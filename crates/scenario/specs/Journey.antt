@@ -1,5 +1,5 @@
 -- A copy of a frame comes to a box, and a station's frame sets out.
-use Rattle.std.specs.Prelude.{◌≡◌, ℕ, Bool, true, false, cond, ◌&&◌, List, [], Some, None, Ok, Err, vec_items, vec_len, Option, Result, Vec, ◌≢◌, nat_lt, slice_index_or}
+use Rattle.std.specs.Prelude.{◌≡◌, ℕ, Bool, true, false, ◌&&◌, List, [], Some, None, Ok, Err, vec_items, vec_len, Option, Result, Vec, ◌≢◌, nat_lt, slice_index_or}
 use Rattle.std.specs.declared.alloc.Global.{Global}
 use Rattle.scan.specs.declared.parts.PortRef.{PortRef}
 use Rattle.wiring.specs.declared.boxes.Node.{Node}

@@ -1,5 +1,5 @@
 -- Trees as a script names them: for each box the one above it.
-use Rattle.std.specs.Prelude.{◌≡◌, ℕ, zero, suc, ◌+◌, Bool, true, false, cond, not, ◌&&◌, List, [], ◌∷◌, replicate, Ok, Err, Result, ◌==◌, nat_lt, slice_index, slice_set}
+use Rattle.std.specs.Prelude.{◌≡◌, ℕ, zero, suc, ◌+◌, Bool, true, false, cond, List, [], ◌∷◌, replicate, Ok, Err, Result, ◌==◌, nat_lt, slice_index, slice_set}
 use Rattle.trees.specs.declared.spanning_tree.Tree.{Tree}
 use Rattle.trees.specs.declared.tree_id.TreeId.{TreeId}
 use Rattle.trees.specs.declared.shape.TreeFault.{TreeFault}

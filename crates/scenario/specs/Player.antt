@@ -1,5 +1,5 @@
 -- The player of a script.
-use Rattle.std.specs.Prelude.{◌≡◌, ℕ, Bool, true, false, cond, ◌&&◌, List, [], ◌∷◌, replicate, Some, None, Ok, Err, vec_items, vec_len, fold, Option, Result, ◌≢◌, nat_lt, slice_index_or}
+use Rattle.std.specs.Prelude.{◌≡◌, ℕ, true, false, cond, ◌&&◌, List, [], ◌∷◌, replicate, Some, None, Ok, Err, vec_items, vec_len, fold, Option, Result, ◌≢◌, nat_lt, slice_index_or}
 use Rattle.wiring.specs.declared.boxes.Node.{Node}
 use Rattle.trees.specs.declared.spanning_tree.Tree.{Tree}
 use Rattle.trees.specs.Ids.{id_number}

@@ -1,5 +1,5 @@
 -- What happens to the bridge in a box, if one is there: what happens to it, and else nothing.
-use Rattle.std.specs.Prelude.{◌≡◌, ℕ, Bool, List, Some, None, Ok, Err, Option, Result}
+use Rattle.std.specs.Prelude.{◌≡◌, ℕ, Bool, List, Some, None, Err, Option, Result}
 use Rattle.forwarding.specs.declared.bridge.Bridge.{Bridge}
 use Rattle.forwarding.specs.declared.fault.Fault.{Fault}
 use Rattle.forwarding.specs.declared.fault.Fault.TheVariants as fault

@@ -1,5 +1,5 @@
 -- A frame on its way from box to box.
-use Rattle.std.specs.Prelude.{ℕ, ◌-◌, Bool, true, false, cond, ◌&&◌, ◌||◌, List, Some, None, Option, ◌==◌, nat_lt, slice_index_or}
+use Rattle.std.specs.Prelude.{ℕ, ◌-◌, Bool, false, cond, ◌||◌, List, Some, None, Option, ◌==◌, nat_lt, slice_index_or}
 use Rattle.scan.specs.declared.parts.PortRef.{PortRef}
 use Rattle.wiring.specs.declared.boxes.Node.{Node}
 use Rattle.scenario.specs.declared.travel.Outcome.{Outcome}

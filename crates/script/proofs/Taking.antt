@@ -1,5 +1,5 @@
 -- One word taken from those that are left.
-use Rattle.std.proofs.Common.{◌≡◌, ℕ, Bool, true, false, cond, List, [], ◌∷◌, length, IfSome, IfOk, Some, None, Ok, Err, codes, Option, Result, sym, refl, ap, ◌∙◌, subst}
+use Rattle.std.proofs.Common.{◌≡◌, ℕ, true, false, List, [], ◌∷◌, length, IfSome, IfOk, Some, None, Ok, Err, codes, Option, Result, sym, ap, ◌∙◌, subst}
 use Rattle.std.specs.Str.{bytes_eq}
 use Rattle.scan.specs.Bytes.{between}
 use Rattle.std.specs.Option as options
@@ -7,7 +7,7 @@ use Rattle.std.proofs.lemmas.Bool.{cond-true, cond-false}
 use Rattle.script.specs.declared.faults.Expected.{Expected}
 use Rattle.script.specs.declared.faults.Expected.TheVariants as expected
 use Rattle.scan.specs.Parts.{is_name, name_of}
-use Rattle.script.specs.Grammar.{part, tail, ended, Aim, everyone, one, aim_of, text_of}
+use Rattle.script.specs.Grammar.{part, tail, ended, everyone, one, aim_of, text_of}
 
 pub part_none : {A : Type 0} (f : List ℕ → Option A) (e : Expected) {ws : List (List ℕ)} → ws ≡ [] → part f e ws ≡ Err e
 unfolding part

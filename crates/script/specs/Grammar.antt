@@ -10,7 +10,6 @@ use Rattle.script.specs.declared.lines.Command.TheVariants as command
 use Rattle.script.specs.declared.lines.Target.{Target}
 use Rattle.script.specs.declared.lines.Target.TheVariants as target
 use Rattle.std.specs.List.{prefix_len, suffix_len}
-use Rattle.scan.specs.declared.bytes.Kind.{Kind}
 use Rattle.scan.specs.declared.bytes.Kind.TheVariants.{Blank, Plain, Code}
 use Rattle.script.specs.declared.verbs.Verb.{Verb}
 use Rattle.script.specs.declared.verbs.Verb.TheVariants as verb

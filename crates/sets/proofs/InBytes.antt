@@ -1,10 +1,9 @@
 -- A set in 16 bytes: each bridge has the same bit there, and both ways lead back.
-use Rattle.std.proofs.Common.{◌≡◌, ℕ, zero, suc, ◌+◌, ◌-◌, ◌*◌, ◌/◌, ◌%◌, ◌^◌, ◌<◌, ◌≤◌, Bool, true, false, eqb, ◌⊎◌, List, [], ◌∷◌, map, length, get_or, sym, refl, ap, ◌∙◌, subst, inl, inr, mul_comm, pow-suc, mul-suc, arith, pow-add, shr-shr}
-use native.Mathlib.Nat.{div-div-eq-div-mul, pow-succ', div-eq_of_lt}
+use Rattle.std.proofs.Common.{◌≡◌, ℕ, zero, suc, ◌+◌, ◌-◌, ◌*◌, ◌/◌, ◌%◌, ◌^◌, ◌<◌, eqb, List, map, get_or, sym, refl, ap, ◌∙◌, subst, pow-suc, mul-suc, arith, pow-add, shr-shr}
+use native.Mathlib.Nat.{div-div-eq-div-mul, pow-succ'}
 use lib.Pow.{field, mod-mod-pow}
 use Rattle.std.specs.List.{range_with_len}
 use Rattle.std.proofs.lemmas.List.FromFn.{get_or-map-range_with_len, fill_by_all, length-map-range_with_len}
-use Rattle.std.proofs.lemmas.Bool.{cases_lt}
 use Rattle.sets.specs.Sets.{bit, has, has_byte, bytes_of, made_of, number_of, Bytes16, ThereAndBack}
 use Rattle.sets.proofs.Members.{same-members}
 

@@ -1,5 +1,5 @@
 -- What masks do to each member of a set, and that its members make a set what it is.
-use Rattle.std.proofs.Common.{◌≡◌, ℕ, zero, suc, ◌+◌, ◌-◌, ◌*◌, ◌/◌, ◌%◌, ◌^◌, ◌<◌, ◌≤◌, Bool, true, false, cond, not, ◌&&◌, ◌||◌, eqb, ◌⊎◌, sym, refl, ap, ◌∙◌, subst, inl, inr, mod-eq_of_lt, pow-suc, arith, pow-add, shr-shr}
+use Rattle.std.proofs.Common.{◌≡◌, ℕ, zero, suc, ◌+◌, ◌-◌, ◌*◌, ◌/◌, ◌%◌, ◌^◌, ◌<◌, ◌≤◌, Bool, true, false, not, ◌&&◌, ◌||◌, eqb, sym, refl, ap, ◌∙◌, subst, inl, inr, mod-eq_of_lt, arith, pow-add, shr-shr}
 use native.Mathlib.Nat.{zero-div, div-eq_of_lt, div-eq_of_lt-le, pow-le-pow_right, two-pow-succ}
 use native.Mathlib.Bridge.{le_prop}
 use lib.Pow.{ones_split, high, pow-lt, shl-shr, ones_lt}
@@ -7,7 +7,7 @@ use lib.Count.{count_leading_zeros, leading_top, leading_length, leading_of_zero
 use lib.Bits.{bit_and, bit_or, bit_xor, and_shr, or_shr, xor_shr, and_mod, or_mod, xor_mod, and_mask, xor_add_and}
 use Rattle.std.proofs.lemmas.Bool.Decides.{nat_tests}
 use Rattle.std.proofs.lemmas.Nat.{pow_pos, one_shl}
-use Rattle.std.proofs.lemmas.Bool.{cases_lt, cases_order, eq-eqb, ne_eqb, eqb-true, eqb-false}
+use Rattle.std.proofs.lemmas.Bool.{cases_lt, cases_order, eq-eqb, ne_eqb}
 use Rattle.sets.specs.declared.bridge_id.BridgeId.{BridgeId}
 use Rattle.sets.specs.Sets.{bit, has, SameMembers}
 

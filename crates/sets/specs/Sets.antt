@@ -1,5 +1,5 @@
 -- What a number of 128 bits says as a set of bridges, and the same in 16 bytes. Assumes nothing.
-use Rattle.std.specs.Prelude.{◌≡◌, ℕ, zero, suc, ◌+◌, ◌-◌, ◌*◌, ◌/◌, ◌%◌, ◌^◌, ◌<◌, Bool, List, [], ◌∷◌, map, length, ◌==◌, slice_index}
+use Rattle.std.specs.Prelude.{◌≡◌, ℕ, zero, suc, ◌+◌, ◌-◌, ◌*◌, ◌/◌, ◌%◌, ◌^◌, ◌<◌, Bool, List, map, length, ◌==◌, slice_index}
 use Rattle.std.specs.List.{range_with_len}
 
 -- bit j of a number, bit 0 the lowest

@@ -1,10 +1,9 @@
 -- The number of a tree is its parts, high part first.
-use Rattle.std.proofs.Common.{◌≡◌, ℕ, ◌+◌, ◌*◌, ◌^◌, ◌<◌, ◌≤◌, ◌⊎◌, sym, refl, ap, ◌∙◌, subst, inl, inr, arith}
+use Rattle.std.proofs.Common.{◌≡◌, ℕ, ◌^◌, ◌<◌, ap, ◌∙◌, subst, arith}
 use native.Mathlib.Bridge.{le_prop}
 use Rattle.sets.proofs.Members.{same_id}
 use Rattle.sets.specs.declared.bridge_id.BridgeId.{BridgeId}
-use Rattle.trees.specs.declared.tree_id.TreeId.{TreeId}
-use Rattle.trees.specs.Ids.{id_number, Before, OrderedByParts, OneNumberOneId}
+use Rattle.trees.specs.Ids.{OrderedByParts, OneNumberOneId}
 
 pub ordered-by-parts : OrderedByParts
 ordered-by-parts a b = (λ h. grind arith, λ h. grind arith)

@@ -1,8 +1,8 @@
 -- Rows of parents and depths: what a look at each bridge tells of the whole.
-use Rattle.std.proofs.Common.{◌≡◌, ℕ, zero, suc, ◌<◌, ◌≤◌, Bool, true, false, cond, not, ◌&&◌, ◌||◌, eqb, ltb, ◌⊎◌, List, get_or, sym, refl, ap, ◌∙◌, subst, inl, inr, arith}
-use Rattle.std.proofs.lemmas.Bool.Decides.{nat_tests, Decides-below_and, Decides-or, Decides-eqb, Decides-ltb}
+use Rattle.std.proofs.Common.{◌≡◌, ℕ, ◌<◌, true, false, ◌||◌, eqb, ltb, ◌⊎◌, List, get_or, sym, refl, subst, inl, inr}
+use Rattle.std.proofs.lemmas.Bool.Decides.{Decides-below_and, Decides-or, Decides-eqb, Decides-ltb}
 use Rattle.std.proofs.lemmas.Bool.{lt-ltb, cases_Bool}
-use Rattle.trees.specs.Tree.{Tree, looks}
+use Rattle.trees.specs.Tree.{looks}
 use Rattle.trees.specs.Shapes.{shaped, Hangs, LooksInWords}
 
 pub looks-in-words : LooksInWords

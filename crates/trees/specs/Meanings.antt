@@ -1,5 +1,5 @@
 -- The tree that a value is, and why rows of parents and depths are none. Assumes nothing.
-use Rattle.std.specs.Prelude.{◌≡◌, ℕ, true, false, List}
+use Rattle.std.specs.Prelude.{◌≡◌, ℕ, false, List}
 use Rattle.trees.specs.Tree.{looks}
 use Rattle.trees.specs.Tree as formal
 use Rattle.trees.specs.Ids.{id_number}

@@ -1,5 +1,5 @@
 -- What two rows of 128 bytes say as a tree: the parent and the depth of each bridge. Assumes nothing.
-use Rattle.std.specs.Prelude.{◌≡◌, ℕ, ◌<◌, ◌≤◌, Bool, true, false, cond, ◌⊎◌, List, Decides, nat_lt, slice_index}
+use Rattle.std.specs.Prelude.{◌≡◌, ℕ, ◌<◌, ◌≤◌, cond, ◌⊎◌, List, Decides, nat_lt, slice_index}
 use Rattle.trees.specs.Tree.{Tree, looks}
 
 -- who is no bridge of the 128 has nobody above it

@@ -1,5 +1,5 @@
 -- What stands in a vector after a message of two parts and its sum were appended.
-use Rattle.std.proofs.Common.{◌≡◌, ℕ, Bool, true, false, cond, List, [], ◌∷◌, ◌++◌, length, drop, sym, refl, ap, ◌∙◌, subst, append_assoc}
+use Rattle.std.proofs.Common.{◌≡◌, ℕ, Bool, true, cond, List, ◌++◌, length, drop, sym, ap, ◌∙◌, subst, append_assoc}
 use lib.Seq.{drop-append_seam}
 use Rattle.crc.specs.Crc.{crc_of}
 use Rattle.wire.specs.Bytes.{in_four, with_sum}

@@ -1,5 +1,5 @@
 -- The number of a tree in eight bytes: sequence number (4), announcer (1), nonce (3).
-use Rattle.std.specs.Prelude.{◌≡◌, ℕ, ◌+◌, List, [], ◌∷◌, ◌++◌, slice_index}
+use Rattle.std.specs.Prelude.{◌≡◌, ℕ, ◌+◌, List, ◌∷◌, ◌++◌, slice_index}
 use Rattle.trees.specs.declared.tree_id.TreeId.{TreeId}
 use Rattle.wire.specs.Bytes.{three, four, in_three, in_four}
 

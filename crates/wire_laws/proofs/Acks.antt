@@ -1,21 +1,19 @@
 -- Acknowledgements, there and back.
-use Rattle.std.proofs.Common.{◌≡◌, ℕ, ◌+◌, ◌^◌, ◌<◌, ◌≤◌, Bool, true, false, cond, eqb, ltb, List, [], ◌∷◌, ◌++◌, length, get_or, Some, None, Option, sym, refl, ap, ◌∙◌, subst, arith, lt-ltb, eqb-true}
+use Rattle.std.proofs.Common.{◌≡◌, ℕ, ◌^◌, ◌<◌, Bool, true, false, cond, eqb, List, [], ◌∷◌, ◌++◌, get_or, Some, None, sym, refl, ap, ◌∙◌, subst, arith, lt-ltb, eqb-true}
 use Rattle.crc.specs.Burst.{Bytes}
 use Rattle.sets.proofs.Members.{same_id}
-use Rattle.wire.specs.declared.fault.Fault.{Fault}
 use Rattle.wire.specs.declared.fault.Fault.TheVariants.{Malformed, NotThere}
-use Rattle.trees.specs.declared.tree_id.TreeId.{TreeId}
 use Rattle.messages.specs.declared.ack.Ack.{Ack}
 use Rattle.messages.specs.declared.ack.Acked.{Acked}
 use Rattle.messages.specs.declared.ack.Acked.TheVariants as acked
-use Rattle.wire.specs.Bytes.{three, four, six, in_four, in_six, whole, with_sum}
-use Rattle.wire.specs.TreeIds.{TreeIdSays, tree_id_bytes}
+use Rattle.wire.specs.Bytes.{four, in_four, in_six, whole, with_sum}
+use Rattle.wire.specs.TreeIds.{tree_id_bytes}
 use Rattle.messages.specs.Acks.{ack_kind, ack_fault, link_state_ack_fault, tree_ack_fault, AckSays, AckedSays, ack_head, acked_link_state, ack_bytes}
 use Rattle.wire_laws.specs.RoundTrips.{RoundTrip, AckFits, AckedFits}
 use Rattle.wire_laws.proofs.LinkStates.{same_count}
 use Rattle.wire_laws.proofs.Numbers.{three_back, four-back, six-back, in-four-at, in-six-at, front}
 use Rattle.wire_laws.proofs.TreeNumbers.{one-id, id-bytes}
-use Rattle.wire_laws.proofs.Whole.{is_whole, whole-bytes, whole_is, whole_of, then-of}
+use Rattle.wire_laws.proofs.Whole.{is_whole, whole-bytes, whole_is, whole_of}
 
 says-acked : (inc : ℕ) (k : Acked) → AckedFits k → AckedSays (ack_bytes record { incarnation = inc; acked = k }) k
 says-acked inc (acked.LinkState bridge of count) h = (refl, refl, sym (four-back of h), sym (six-back count.value count.six_bytes))

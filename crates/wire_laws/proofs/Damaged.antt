@@ -1,24 +1,24 @@
 -- Damaged and cut messages.
-use Rattle.std.proofs.Common.{◌≡◌, ℕ, zero, suc, ◌+◌, ◌-◌, ◌*◌, ◌<◌, ◌≤◌, Bool, true, false, cond, ◌&&◌, eqb, leb, ◌⊎◌, List, [], ◌∷◌, ◌++◌, length, get_or, take, drop, Some, None, Option, sym, refl, ap, ◌∙◌, subst, inl, inr, arith, length-append, ne_eqb, eqb-true, leb-true}
+use Rattle.std.proofs.Common.{◌≡◌, ℕ, zero, suc, ◌+◌, ◌-◌, ◌*◌, ◌<◌, Bool, true, false, cond, ◌&&◌, eqb, leb, ◌⊎◌, List, [], ◌∷◌, length, get_or, take, drop, Some, None, Option, sym, refl, ap, ◌∙◌, inl, inr, arith, ne_eqb, eqb-true}
 use native.Mathlib.Decide.{dec_lt}
 use borrow.Author.Tests.{lt-leb}
 use Rattle.std.proofs.lemmas.List.{get_or-drop, get_or-take, length-take-le, length-take}
-use Rattle.crc.specs.Crc.{crc_of, bits_of}
-use Rattle.crc.specs.Burst.{Bytes, Window}
+use Rattle.crc.specs.Crc.{crc_of}
+use Rattle.crc.specs.Burst.{Bytes}
 use Rattle.crc.proofs.Windows.{burst-told}
 use Rattle.wire.specs.declared.fault.Fault.{Fault}
-use Rattle.wire.specs.declared.fault.Fault.TheVariants.{Malformed, NotThere}
+use Rattle.wire.specs.declared.fault.Fault.TheVariants.{Malformed}
 use Rattle.wire.specs.Bytes.{four, summed, whole, with_sum}
 use Rattle.messages.specs.Acks.{ack_kind, ack_fault, link_state_ack_fault, tree_ack_fault}
 use Rattle.frames.specs.ForwardedFrames.{forwarded_fault, header_fault, frame_in, or_else}
 use Rattle.messages.specs.Hellos.{hello_fault}
 use Rattle.messages.specs.LinkStates.{link_state_fault}
 use Rattle.messages.specs.Messages.{kind_of, message_fault}
-use Rattle.frames.specs.SettingsBytes.{are_settings, settings_fault}
+use Rattle.frames.specs.SettingsBytes.{are_settings}
 use Rattle.frames.specs.StationFrames.{station_fault}
 use Rattle.messages.specs.TreeBytes.{tree_fault}
-use Rattle.wire_laws.specs.Damage.{body_of, sum_of, BodyDamaged, SumDamaged, DamageTold, CutTold, CutSettingsTold, Told}
-use Rattle.wire_laws.proofs.Whole.{and_first, and_second, summed-four, summed-is, whole_is, whole_of, then-of}
+use Rattle.wire_laws.specs.Damage.{body_of, BodyDamaged, SumDamaged, DamageTold, CutTold, CutSettingsTold, Told}
+use Rattle.wire_laws.proofs.Whole.{and_second, summed-four, summed-is, whole_is, whole_of}
 
 no_second : (t : Bool) → (t && false) ≡ false
 no_second true = refl

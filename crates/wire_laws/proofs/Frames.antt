@@ -1,21 +1,19 @@
 -- Frames between bridges, there and back.
-use Rattle.std.proofs.Common.{◌≡◌, ℕ, ◌+◌, ◌-◌, ◌^◌, ◌<◌, ◌≤◌, Bool, true, false, cond, ◌&&◌, eqb, ltb, leb, List, [], ◌∷◌, ◌++◌, length, get_or, take, drop, Some, None, Option, sym, refl, ap, ◌∙◌, subst, arith, length-append, drop_at, lt-ltb, eq-eqb, eqb-true, le-leb, leb-true}
+use Rattle.std.proofs.Common.{◌≡◌, ℕ, ◌+◌, ◌-◌, ◌^◌, ◌<◌, ◌≤◌, true, cond, ◌&&◌, eqb, leb, List, ◌∷◌, ◌++◌, length, get_or, take, drop, Some, None, Option, sym, refl, ap, ◌∙◌, subst, arith, length-append, lt-ltb, eqb-true, le-leb, leb-true}
 use Rattle.crc.specs.Burst.{Bytes}
 use Rattle.sets.proofs.Members.{same_id}
 use Rattle.wire.specs.declared.fault.Fault.{Fault}
 use Rattle.wire.specs.declared.fault.Fault.TheVariants.{Malformed, NotThere}
-use Rattle.std.proofs.lemmas.List.{take-append-drop, take-append-le, take_all, length-take}
+use Rattle.std.proofs.lemmas.List.{take-append-le, take_all, length-take}
 use Rattle.crc.specs.Crc.{crc_of}
-use Rattle.trees.specs.declared.tree_id.TreeId.{TreeId}
 use Rattle.frames.specs.declared.forwarded.Header.{Header}
 use Rattle.wire.specs.Bytes.{two, in_two, in_four, summed, with_sum}
 use Rattle.frames.specs.StationFrames.{station_fault}
-use Rattle.wire.specs.TreeIds.{TreeIdSays, tree_id_bytes}
 use Rattle.frames.specs.ForwardedFrames.{header_there, HeaderSays, header_fault, frame_in, or_else, forwarded_fault, header_bytes, forwarded_bytes}
 use Rattle.wire_laws.specs.RoundTrips.{RoundTrip, Framed, FramedFits, FramedSays, framed_bytes}
 use Rattle.wire_laws.proofs.Numbers.{two_back, three_back, four-back, in-two-at, front, take-front, take_split}
 use Rattle.wire_laws.proofs.TreeNumbers.{one-id, id-bytes}
-use Rattle.wire_laws.proofs.Whole.{and_both, and_first, and_second, sum_fits, summed-is, summed-four, body_of, whole_of, then-of}
+use Rattle.wire_laws.proofs.Whole.{and_both, and_first, and_second, sum_fits, summed-is, body_of, whole_of, then-of}
 
 says-header : (h : Header) (f : List ℕ) → h.tree.seq < 2 ^ 32 → h.vlan ≤ 4094 → HeaderSays (forwarded_bytes h f) h
 says-header h f s v = record {

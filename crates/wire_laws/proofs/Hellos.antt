@@ -1,11 +1,10 @@
 -- Hellos, there and back.
-use Rattle.std.proofs.Common.{◌≡◌, ℕ, ◌+◌, ◌^◌, ◌<◌, ◌≤◌, Bool, true, false, cond, ltb, List, [], ◌∷◌, ◌++◌, length, get_or, Some, None, Option, sym, refl, ap, ◌∙◌, subst, arith, lt-ltb}
+use Rattle.std.proofs.Common.{◌≡◌, ℕ, true, cond, List, ◌∷◌, ◌++◌, get_or, Some, None, sym, refl, ◌∙◌, subst, lt-ltb}
 use Rattle.crc.specs.Burst.{Bytes}
 use Rattle.sets.proofs.Members.{same_id}
-use Rattle.wire.specs.declared.fault.Fault.{Fault}
 use Rattle.wire.specs.declared.fault.Fault.TheVariants.{Malformed, NotThere}
 use Rattle.messages.specs.declared.hello.Hello.{Hello}
-use Rattle.wire.specs.Bytes.{four, in_four, whole, with_sum}
+use Rattle.wire.specs.Bytes.{in_four, whole, with_sum}
 use Rattle.messages.specs.Hellos.{hello_fault, HelloSays, hello_bytes}
 use Rattle.wire_laws.specs.RoundTrips.{RoundTrip, HelloFits}
 use Rattle.wire_laws.proofs.Numbers.{four-back, in-four-at}

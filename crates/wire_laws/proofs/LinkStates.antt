@@ -1,16 +1,14 @@
 -- Link states, there and back.
-use Rattle.std.proofs.Common.{◌≡◌, ℕ, zero, suc, ◌+◌, ◌^◌, ◌<◌, ◌≤◌, Bool, true, false, cond, ltb, List, [], ◌∷◌, ◌++◌, length, get_or, take, drop, Some, None, Option, sym, refl, ap, ◌∙◌, subst, arith, lt-ltb}
+use Rattle.std.proofs.Common.{◌≡◌, ℕ, zero, suc, ◌^◌, ◌<◌, true, cond, List, ◌∷◌, ◌++◌, length, get_or, take, drop, Some, None, sym, refl, ap, ◌∙◌, subst, arith, lt-ltb}
 use Rattle.crc.specs.Burst.{Bytes}
 use Rattle.sets.proofs.Members.{same_id}
-use Rattle.wire.specs.declared.fault.Fault.{Fault}
 use Rattle.wire.specs.declared.fault.Fault.TheVariants.{Malformed, NotThere}
 use native.Mathlib.Bridge.{le_prop}
 use Rattle.sets.specs.Sets.{bytes_of, number_of, Bytes16}
 use Rattle.sets.proofs.InBytes.{number-back, bytes_back}
-use Rattle.std.proofs.lemmas.List.{drop-take, take-append-drop}
 use Rattle.wire.specs.declared.count.Count.{Count}
 use Rattle.messages.specs.declared.link_state.LinkState.{LinkState}
-use Rattle.wire.specs.Bytes.{four, six, in_four, in_six, whole, with_sum}
+use Rattle.wire.specs.Bytes.{in_four, in_six, whole, with_sum}
 use Rattle.messages.specs.LinkStates.{link_state_fault, LinkStateSays, link_state_head, link_state_bytes}
 use Rattle.wire_laws.specs.RoundTrips.{RoundTrip, LinkStateFits}
 use Rattle.wire_laws.proofs.Numbers.{byte_at, four-back, six-back, in-four-at, in-six-at, front, take-front}

@@ -1,5 +1,5 @@
 -- Numbers in bytes, there and back.
-use Rattle.std.proofs.Common.{◌≡◌, ℕ, zero, suc, ◌+◌, ◌-◌, ◌*◌, ◌/◌, ◌%◌, ◌^◌, ◌<◌, ◌≤◌, List, [], ◌∷◌, ◌++◌, length, get_or, take, drop, sym, refl, ap, ◌∙◌, subst, suc-add, zero-add, arith, drop-cons, shr-shr}
+use Rattle.std.proofs.Common.{◌≡◌, ℕ, zero, suc, ◌+◌, ◌*◌, ◌/◌, ◌%◌, ◌^◌, ◌<◌, ◌≤◌, List, [], ◌∷◌, ◌++◌, length, get_or, take, drop, refl, ap, ◌∙◌, suc-add, zero-add, arith, drop-cons, shr-shr}
 use Rattle.crc.specs.Burst.{Bytes}
 use Rattle.wire.specs.Bytes.{two, three, four, six, in_two, in_three, in_four, in_six}
 

@@ -1,20 +1,18 @@
 -- Settings, there and back.
-use Rattle.std.proofs.Common.{◌≡◌, ℕ, zero, suc, ◌+◌, ◌-◌, ◌*◌, ◌/◌, ◌%◌, ◌^◌, ◌<◌, ◌≤◌, Bool, true, false, cond, not, ◌&&◌, eqb, ltb, leb, List, [], ◌∷◌, ◌++◌, length, get_or, take, drop, Some, None, Option, sym, refl, ap, ◌∙◌, subst, arith, length-append, length-drop, get_or-append-add, lt-ltb, eq-eqb, ne_eqb, eqb-true, le-leb, leb-true}
+use Rattle.std.proofs.Common.{◌≡◌, ℕ, zero, suc, ◌+◌, ◌*◌, ◌/◌, ◌%◌, ◌<◌, ◌≤◌, true, cond, not, ◌&&◌, eqb, leb, List, [], ◌∷◌, ◌++◌, length, get_or, take, drop, Some, None, sym, refl, ap, ◌∙◌, subst, arith, length-append, length-drop, get_or-append-add, lt-ltb, eq-eqb, ne_eqb, eqb-true, le-leb}
 use Rattle.crc.specs.Burst.{Bytes}
 use Rattle.sets.proofs.Members.{same_id}
-use Rattle.wire.specs.declared.fault.Fault.{Fault}
 use Rattle.wire.specs.declared.fault.Fault.TheVariants.{Malformed, BadSettings}
 use native.Mathlib.Bridge.{le_prop}
 use native.Mathlib.Decide.{dec_lt}
 use Rattle.std.proofs.lemmas.List.{get_or-drop, take-append-drop}
-use Rattle.sets.specs.declared.bridge_id.BridgeId.{BridgeId}
 use Rattle.frames.specs.declared.settings.Settings.{Settings}
-use Rattle.wire.specs.Bytes.{two, four, in_two, in_four, pairs_of}
-use Rattle.frames.specs.SettingsBytes.{are_settings, vlan_in, vlans_can_be, can_be, settings_fault, VlansSay, SettingsSay, settings_head, in_twos, settings_bytes}
+use Rattle.wire.specs.Bytes.{four, in_two, in_four}
+use Rattle.frames.specs.SettingsBytes.{are_settings, vlan_in, vlans_can_be, can_be, settings_fault, SettingsSay, settings_head, in_twos, settings_bytes}
 use Rattle.wire.proofs.Rows.{same-list, length_pairs, get_or-pairs, pairs-are}
 use Rattle.wire_laws.specs.RoundTrips.{RoundTrip, SettingsFit}
-use Rattle.wire_laws.proofs.Numbers.{two_back, four-back, in-two-at, in-four-at, front, take-front}
-use Rattle.wire_laws.proofs.Whole.{and_both, and_first, and_second, whole_of, then-of}
+use Rattle.wire_laws.proofs.Numbers.{two_back, four-back, in-two-at, in-four-at, take-front}
+use Rattle.wire_laws.proofs.Whole.{and_both, and_first, and_second, whole_of}
 
 high : List ℕ → ℕ → ℕ
 high vs k = get_or vs k 0 / 256 % 256

@@ -1,12 +1,11 @@
 -- The number of a tree, there and back.
-use Rattle.std.proofs.Common.{◌≡◌, ℕ, ◌+◌, ◌*◌, ◌^◌, ◌<◌, List, [], ◌∷◌, ◌++◌, get_or, sym, refl, ap, ◌∙◌, subst, arith}
+use Rattle.std.proofs.Common.{◌≡◌, ℕ, ◌+◌, ◌*◌, ◌^◌, List, [], ◌∷◌, ◌++◌, get_or, sym, ◌∙◌}
 use Rattle.crc.specs.Burst.{Bytes}
 use Rattle.trees.specs.declared.tree_id.TreeId.{TreeId}
-use Rattle.trees.specs.Ids.{id_number}
 use Rattle.trees.proofs.Ids.{one-number-one-id}
-use Rattle.wire.specs.Bytes.{three, four, in_three, in_four}
+use Rattle.wire.specs.Bytes.{in_three, in_four}
 use Rattle.wire.specs.TreeIds.{TreeIdSays, tree_id_bytes}
-use Rattle.wire_laws.proofs.Numbers.{byte_at, in-three-at, in-four-at}
+use Rattle.wire_laws.proofs.Numbers.{in-three-at, in-four-at}
 
 pub one-id : (b : List ℕ) (i : ℕ) (s t : TreeId) → TreeIdSays b i s → TreeIdSays b i t → s ≡ t
 one-id b i s t p q =

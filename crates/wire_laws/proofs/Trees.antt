@@ -1,10 +1,7 @@
 -- Trees, there and back.
-use Rattle.std.proofs.Common.{◌≡◌, ℕ, ◌+◌, ◌-◌, ◌*◌, ◌^◌, ◌<◌, ◌≤◌, Bool, true, false, cond, ◌&&◌, ltb, List, [], ◌∷◌, ◌++◌, length, get_or, take, drop, Some, None, Option, sym, refl, ap, ◌∙◌, subst, arith, length-append, length-drop, get_or-append-add, lt-ltb}
+use Rattle.std.proofs.Common.{◌≡◌, ℕ, ◌+◌, ◌-◌, ◌*◌, ◌^◌, ◌<◌, true, List, ◌∷◌, ◌++◌, length, get_or, take, drop, None, sym, refl, ap, ◌∙◌, subst, arith, length-append, length-drop, get_or-append-add}
 use mathlib.Core.Bool.{Bool-set}
 use Rattle.crc.specs.Burst.{Bytes}
-use Rattle.sets.proofs.Members.{same_id}
-use Rattle.wire.specs.declared.fault.Fault.{Fault}
-use Rattle.wire.specs.declared.fault.Fault.TheVariants.{Malformed, NotThere}
 use native.Mathlib.Bridge.{le_prop}
 use Rattle.std.proofs.lemmas.List.{get_or_append_left, get_or-drop, get_or-take, length-take-le}
 use Rattle.crc.specs.Crc.{crc_of}
@@ -13,16 +10,16 @@ use Rattle.trees.specs.Ids.{id_number}
 use Rattle.trees.specs.Shapes.{shaped, Named}
 use Rattle.trees.specs.declared.tree_id.TreeId.{TreeId}
 use Rattle.trees.specs.declared.spanning_tree.Tree.{Tree}
-use Rattle.wire.specs.Bytes.{three, four, in_four, pairs_of, summed, whole, with_sum}
-use Rattle.wire.specs.TreeIds.{TreeIdSays, tree_id_bytes}
-use Rattle.messages.specs.TreeBytes.{row, parents_in, depths_in, tree_fault, TreeSays, paired, tree_head, tree_bytes}
+use Rattle.wire.specs.Bytes.{in_four, whole, with_sum}
+use Rattle.wire.specs.TreeIds.{TreeIdSays}
+use Rattle.messages.specs.TreeBytes.{parents_in, depths_in, tree_fault, TreeSays, paired, tree_head, tree_bytes}
 use Rattle.messages.proofs.Columns.{length-row, get_or-row}
 use Rattle.wire.proofs.Rows.{same-list, length_pairs, get_or-pairs, pairs-are}
 use Rattle.messages.proofs.Grown.{tree-read}
 use Rattle.wire_laws.specs.RoundTrips.{RoundTrip, TreeFits}
-use Rattle.wire_laws.proofs.Numbers.{three_back, four-back, front, take-front, take_split}
+use Rattle.wire_laws.proofs.Numbers.{three_back, four-back, take-front, take_split}
 use Rattle.wire_laws.proofs.TreeNumbers.{one-id, id-bytes}
-use Rattle.wire_laws.proofs.Whole.{is_whole, whole_is, whole_of, summed-is, body_of}
+use Rattle.wire_laws.proofs.Whole.{is_whole, whole_is, whole_of, summed-is}
 
 says-id : (t : Tree) → t.id.seq < 2 ^ 32 → TreeIdSays (tree_bytes t) 1 t.id
 says-id t h = record { seq = sym (four-back t.id.seq h); announcer = refl; nonce = sym (three_back t.id.nonce t.id.three_bytes) }

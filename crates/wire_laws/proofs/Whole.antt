@@ -1,7 +1,6 @@
 -- A message with its sum behind it is whole, and a whole message is one with its sum behind it.
-use Rattle.std.proofs.Common.{◌≡◌, ℕ, zero, suc, ◌+◌, ◌-◌, ◌*◌, ◌/◌, ◌%◌, ◌^◌, ◌<◌, ◌≤◌, Bool, true, false, cond, ◌&&◌, eqb, leb, List, [], ◌∷◌, ◌++◌, length, get_or, take, drop, Some, None, Option, sym, refl, ap, ◌∙◌, subst, append_assoc, arith, length-append, length-drop, get_or-append-add, drop_at, eq-eqb, eqb-true, le-leb, leb-true}
-use lib.Seq.{drop-append_seam}
-use Rattle.std.proofs.lemmas.List.{take-append-drop, take-append-le, take_all, get_or-append_right}
+use Rattle.std.proofs.Common.{◌≡◌, ℕ, suc, ◌+◌, ◌-◌, ◌*◌, ◌/◌, ◌%◌, ◌^◌, ◌<◌, ◌≤◌, Bool, true, false, cond, ◌&&◌, eqb, leb, List, [], ◌∷◌, ◌++◌, length, get_or, take, drop, Some, None, Option, sym, refl, ap, ◌∙◌, arith, length-append, length-drop, get_or-append-add, eq-eqb, eqb-true, le-leb, leb-true}
+use Rattle.std.proofs.lemmas.List.{take-append-drop, take-append-le, take_all}
 use Rattle.crc.specs.Crc.{crc_of}
 use Rattle.crc.specs.Burst.{Bytes}
 use Rattle.crc.proofs.Windows.{crc-below}

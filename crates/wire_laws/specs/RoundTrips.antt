@@ -1,5 +1,5 @@
 -- Into bytes and back: for each kind of message.
-use Rattle.std.specs.Prelude.{◌≡◌, ℕ, ◌^◌, ◌<◌, ◌≤◌, List, [], ◌∷◌, ◌++◌, length, Some, None, Option, slice_index}
+use Rattle.std.specs.Prelude.{◌≡◌, ℕ, ◌^◌, ◌<◌, ◌≤◌, List, length, None, Option, slice_index}
 use Rattle.crc.specs.Burst.{Bytes}
 use Rattle.trees.specs.declared.spanning_tree.Tree.{Tree}
 use Rattle.wire.specs.declared.fault.Fault.{Fault}

@@ -1,5 +1,5 @@
 -- A table filled from its front.
-use Rattle.std.proofs.Common.{◌≡◌, ℕ, suc, ◌+◌, ◌-◌, ◌<◌, List, [], ◌∷◌, ◌++◌, length, set, replicate, sym, refl, ap, ◌∙◌, subst, arith}
+use Rattle.std.proofs.Common.{◌≡◌, ℕ, suc, ◌+◌, ◌-◌, ◌<◌, [], ◌∷◌, ◌++◌, set, replicate, sym, ap, ◌∙◌, arith}
 use Rattle.std.proofs.lemmas.List.{set_at, append_assoc, replicate_more, length-replicate}
 
 pub one_more : {X : Type 0} (x y : X) (i n : ℕ) → i < n → set (replicate i x ++ replicate (n - i) y) i x ≡ replicate (i + 1) x ++ replicate (n - (i + 1)) y

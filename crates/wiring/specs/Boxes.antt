@@ -1,5 +1,5 @@
 -- Boxes with their ports.
-use Rattle.std.specs.Prelude.{ℕ, ◌-◌, min, cond, List, [], ◌∷◌, ◌++◌, get_or, replicate, nat_lt, slice_index_or, slice_set}
+use Rattle.std.specs.Prelude.{ℕ, ◌-◌, min, cond, List, [], ◌++◌, get_or, replicate, nat_lt, slice_index_or, slice_set}
 use Rattle.scan.specs.declared.parts.PortRef.{PortRef}
 use Rattle.wiring.specs.declared.boxes.Power.{Power}
 use Rattle.wiring.specs.declared.boxes.Power.TheVariants as power

@@ -1,5 +1,5 @@
 -- What a script may do to boxes, ports and cables.
-use Rattle.std.specs.Prelude.{◌≡◌, ℕ, Bool, true, false, cond, ◌&&◌, List, Ok, Err, Result, ◌==◌, nat_lt}
+use Rattle.std.specs.Prelude.{◌≡◌, ℕ, Bool, false, cond, ◌&&◌, List, Ok, Err, Result, ◌==◌, nat_lt}
 use Rattle.scan.specs.declared.parts.PortRef.{PortRef}
 use Rattle.script.specs.declared.faults.Expected.{Expected}
 use Rattle.script.specs.declared.faults.Expected.TheVariants as expected

@@ -1,4 +1,4 @@
-use Rattle.std.proofs.Common.{◌≡◌, ◌-◌, refl, arith, rules}
+use Rattle.std.proofs.Common.{◌≡◌, ◌-◌, refl, arith}
 use Rattle.crc.specs.Crc.{after}
 use Rattle.crc.proofs.Linear.{after_next}
 use Rattle.crc.proofs.bits.take_byte.Goals as goal

@@ -1,4 +1,3 @@
-use Rattle.std.proofs.Common.{◌≡◌, sym, ap, ◌∙◌, arith, rules}
 use Rattle.crc.proofs.Linear.{through-next, through-end, crc-through}
 use Rattle.crc.proofs.bits.taken_in.Goals as goal
 

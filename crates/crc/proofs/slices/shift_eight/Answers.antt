@@ -1,4 +1,4 @@
-use Rattle.std.proofs.Common.{◌≡◌, ◌∙◌}
+use Rattle.std.proofs.Common.{◌∙◌}
 use lib.Bits.{bit_xor}
 use Rattle.crc.proofs.Eight.{shifted-eight}
 use Rattle.crc.proofs.slices.shift_eight.Goals as goal

@@ -1,4 +1,4 @@
-use Rattle.std.proofs.Common.{◌≡◌, refl, ◌∙◌, rules}
+use Rattle.std.proofs.Common.{refl, ◌∙◌, rules}
 use Rattle.crc.proofs.Linear.{through-next, through-end, crc-through}
 use Rattle.crc.proofs.Eight.{through-eight, tail-bytes}
 use Rattle.crc.proofs.slices.taken_in.Goals as goal

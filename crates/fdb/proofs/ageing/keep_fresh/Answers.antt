@@ -1,5 +1,5 @@
-use Rattle.std.proofs.Common.{◌≡◌, get_or, sym, refl, ◌∙◌, arith}
-use Rattle.std.proofs.lemmas.List.Filters.{FiltersInPlace, FiltersInPlace-all, FiltersInPlace-more_set, FiltersInPlace-more_no}
+use Rattle.std.proofs.Common.{get_or, sym, ◌∙◌, arith}
+use Rattle.std.proofs.lemmas.List.Filters.{FiltersInPlace-all, FiltersInPlace-more_set, FiltersInPlace-more_no}
 use Rattle.std.proofs.lemmas.List.{get_or_default}
 use Rattle.fdb.specs.Entries.{remembered, no_entry}
 use Rattle.fdb.proofs.ageing.keep_fresh.Goals as goal

@@ -1,4 +1,4 @@
-use Rattle.std.proofs.Common.{◌≡◌, true, set, vec_items, sym, refl, ◌∙◌, subst, arith, rules}
+use Rattle.std.proofs.Common.{◌≡◌, true, set, vec_items, sym, subst, arith, rules}
 use Rattle.fdb.specs.Entries.{ascending}
 use Rattle.fdb.specs.Contents.{learned}
 use Rattle.fdb.proofs.Ordered.{noted, learned-new, learned-ascending, room-ascending, room-new}

@@ -1,4 +1,4 @@
-use Rattle.std.proofs.Common.{ℕ, ◌+◌, ◌/◌, sym, inl, inr, arith}
+use Rattle.std.proofs.Common.{◌+◌, ◌/◌, inl, inr, arith}
 use Rattle.std.proofs.lemmas.Bool.{cases_eq}
 use Rattle.fdb.proofs.Ordered.{rises, stands_at, belongs-at}
 use Rattle.fdb.proofs.search.locate.Goals as goal

@@ -1,8 +1,7 @@
-use Rattle.std.proofs.Common.{◌≡◌, ap, ◌∙◌, rules}
+use Rattle.std.proofs.Common.{ap, ◌∙◌, rules}
 use Rattle.fdb.specs.Contents.{learnt}
 use Rattle.fdb.specs.Held.{contents}
-use Rattle.forwarding.specs.Holding.{slot_of, found_in}
-use Rattle.forwarding.specs.State.{Slot}
+use Rattle.forwarding.specs.Holding.{found_in}
 use Rattle.forwarding.proofs.Learns.{learnt-heard}
 use Rattle.forwarding.proofs.along.forward.Goals as goal
 

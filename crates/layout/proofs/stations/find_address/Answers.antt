@@ -1,4 +1,4 @@
-use Rattle.std.proofs.Common.{◌≡◌, arith}
+use Rattle.std.proofs.Common.{arith}
 use Rattle.layout.proofs.Finding.{address_more, address-here, address-past}
 use Rattle.layout.proofs.stations.find_address.Goals as goal
 

@@ -1,4 +1,4 @@
-use Rattle.std.proofs.Common.{◌≡◌, arith}
+use Rattle.std.proofs.Common.{arith}
 use Rattle.layout.proofs.Finding.{name-more, name-here, name-past}
 use Rattle.layout.proofs.stations.find_name.Goals as goal
 

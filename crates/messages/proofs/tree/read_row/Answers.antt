@@ -1,4 +1,4 @@
-use Rattle.std.proofs.Common.{◌≡◌, sym, ◌∙◌, arith, get_or-set_other, get_or-set_same, rules}
+use Rattle.std.proofs.Common.{sym, ◌∙◌, arith, get_or-set_other, get_or-set_same, rules}
 use Rattle.std.proofs.lemmas.Bool.{cases_eq}
 use Rattle.messages.proofs.Columns.{length-row, get_or-row}
 use Rattle.wire.proofs.Rows.{same-list}

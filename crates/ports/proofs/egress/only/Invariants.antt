@@ -1,7 +1,4 @@
 use Rattle.std.proofs.Common.{◌≡◌, ℕ, ◌<◌, false, ◌&&◌, eqb, length, get_or}
-use Rattle.ports.specs.Ports.{ports_of}
-use Rattle.ports.specs.Places.{came_of}
-use Rattle.ports.specs.Outward.{to_stations}
 use Rattle.ports.proofs.egress.only.Given as goal
 
 abbrev pub invariant-loop-i : goal.invariant-loop-i

@@ -1,4 +1,4 @@
-use Rattle.std.proofs.Common.{◌≡◌, ℕ, ◌<◌, false, ◌||◌, length, get_or}
+use Rattle.std.proofs.Common.{◌≡◌, ℕ, ◌<◌, false, length, get_or}
 use Rattle.ports.specs.Ports.{ports_of}
 use Rattle.ports.specs.Places.{came_of}
 use Rattle.ports.specs.Outward.{to_stations}

@@ -1,4 +1,4 @@
-use Rattle.std.proofs.Common.{refl, add-one, arith, rules}
+use Rattle.std.proofs.Common.{refl, add-one, arith}
 use Rattle.std.proofs.lemmas.Bool.Decides.{nat_tests}
 use Rattle.ports.specs.Ports.{none_below}
 use Rattle.ports.proofs.lowest.lowest_port.Goals as goal

@@ -1,4 +1,4 @@
-use Rattle.std.proofs.Common.{sym, ap, ◌∙◌, rules}
+use Rattle.std.proofs.Common.{sym, ap, ◌∙◌}
 use Rattle.sets.specs.Sets.{has}
 use Rattle.ports.specs.Ports.{ports_of}
 use Rattle.ports.proofs.Onward.{one_more, none_more}

@@ -1,4 +1,4 @@
-use Rattle.std.proofs.Common.{◌≡◌, eqb, length, sym, ap, ◌∙◌}
+use Rattle.std.proofs.Common.{eqb, length, sym, ap, ◌∙◌}
 use Rattle.scan.specs.Bytes.{is_of}
 use Rattle.scan.proofs.Wording.{all-leading}
 use Rattle.scan.proofs.bytes.all_of.Goals as goal

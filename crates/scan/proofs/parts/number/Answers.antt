@@ -1,5 +1,4 @@
-use Rattle.std.proofs.Common.{◌≡◌, ◌-◌, sym, ap, ◌∙◌, arith, rules}
-use Rattle.scan.specs.Parts.{value_after}
+use Rattle.std.proofs.Common.{◌-◌, sym, ap, ◌∙◌, arith, rules}
 use Rattle.scan.proofs.Numbers.{over, no-digits, too-high, too-low, in-range, step, all_read}
 use Rattle.scan.proofs.parts.number.Goals as goal
 

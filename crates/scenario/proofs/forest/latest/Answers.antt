@@ -1,7 +1,6 @@
-use Rattle.std.proofs.Common.{◌≡◌, ◌<◌, length, take, None, fold, ap, ◌∙◌, arith, rules}
+use Rattle.std.proofs.Common.{rules}
 use Rattle.std.proofs.lemmas.List.Sums.{fold_more}
 use Rattle.std.proofs.lemmas.List.{take_all}
-use Rattle.scenario.specs.Forest.{by_seq}
 use Rattle.scenario.proofs.forest.latest.Goals as goal
 
 pub loop-i-preserved : goal.loop-i-preserved

@@ -1,4 +1,4 @@
-use Rattle.std.proofs.Common.{sym, rules}
+use Rattle.std.proofs.Common.{sym}
 use Rattle.scenario.proofs.Hanging.{hang-none, hang-step}
 use Rattle.scenario.proofs.resting.all_hang.Goals as goal
 

@@ -1,4 +1,4 @@
-use Rattle.std.proofs.Common.{sym, rules}
+use Rattle.std.proofs.Common.{sym}
 use Rattle.scenario.proofs.Hanging.{linked-none, linked-step}
 use Rattle.scenario.proofs.resting.is_linked.Goals as goal
 

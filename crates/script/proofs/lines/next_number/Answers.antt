@@ -1,5 +1,4 @@
 use Rattle.std.proofs.Common.{sym}
-use Rattle.script.specs.declared.faults.Expected.TheVariants as expected
 use Rattle.scan.specs.Parts.{number_in}
 use Rattle.script.proofs.Taking.{part_none, part-some, tail_none, tail-some, ok-bound}
 use Rattle.script.proofs.lines.next_number.Goals as goal

@@ -1,7 +1,7 @@
 use Rattle.std.proofs.Common.{sym}
 use Rattle.script.specs.declared.faults.Expected.TheVariants as expected
 use Rattle.scan.specs.Parts.{port_of}
-use Rattle.script.proofs.Taking.{part_none, part-some, tail_none, tail-some, ok-bound}
+use Rattle.script.proofs.Taking.{part_none, part-some, tail_none, tail-some}
 use Rattle.script.proofs.lines.next_port.Goals as goal
 
 pub returns-in_default : goal.returns-in_default

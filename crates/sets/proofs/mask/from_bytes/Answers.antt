@@ -1,4 +1,4 @@
-use Rattle.std.proofs.Common.{◌≡◌, sym, refl, ap, ◌∙◌, arith, rules}
+use Rattle.std.proofs.Common.{◌≡◌, ap, ◌∙◌, arith, rules}
 use Rattle.sets.specs.Sets.{has, number_of}
 use Rattle.sets.proofs.InBytes.{has-number}
 use Rattle.sets.proofs.mask.from_bytes.Goals as goal

@@ -1,4 +1,4 @@
-use Rattle.std.proofs.Common.{◌-◌, eqb, sym, refl, ap, ◌∙◌}
+use Rattle.std.proofs.Common.{◌-◌, eqb, ap}
 use Rattle.sets.specs.Sets.{bit, has}
 use Rattle.sets.proofs.mask.holds.Goals as goal
 

@@ -1,4 +1,4 @@
-use Rattle.std.proofs.Common.{◌≡◌, true, ◌++◌, length, drop, is_ok, vec_items, vec_len, sym, refl, ap, ◌∙◌, arith, rules}
+use Rattle.std.proofs.Common.{◌≡◌, true, ◌++◌, length, drop, is_ok, vec_items, rules}
 use Rattle.wire.proofs.Appended.{appended}
 use Rattle.wire.proofs.sum.append_summed.Goals as goal
 

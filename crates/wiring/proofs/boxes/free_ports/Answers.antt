@@ -1,4 +1,4 @@
-use Rattle.std.proofs.Common.{◌≡◌, ◌-◌, ◌≤◌, min, ◌++◌, set, replicate, sym, refl, ap, ◌∙◌, subst, arith}
+use Rattle.std.proofs.Common.{◌≡◌, ◌-◌, min, ◌++◌, set, replicate, ap, ◌∙◌, arith}
 use Rattle.wiring.specs.declared.boxes.Port.TheVariants as port
 use Rattle.wiring.specs.Boxes.{ports_of}
 use Rattle.wiring.proofs.Filling.{one_more}

@@ -1,4 +1,4 @@
-use Rattle.std.proofs.Common.{◌≡◌, ◌-◌, ◌≤◌, ◌++◌, replicate}
+use Rattle.std.proofs.Common.{◌≡◌, ◌-◌, ◌++◌, replicate}
 use Rattle.wiring.specs.declared.boxes.Port.TheVariants as port
 use Rattle.wiring.proofs.boxes.free_ports.Given as goal
 

@@ -1,4 +1,4 @@
-use Rattle.std.proofs.Common.{◌≡◌, refl, arith, rules}
+use Rattle.std.proofs.Common.{refl, arith}
 use Rattle.frames.proofs.Vlans.{vlans-none, vlans-bad, vlans-more}
 use Rattle.frames.proofs.settings.codec.read_vlans.Goals as goal
 

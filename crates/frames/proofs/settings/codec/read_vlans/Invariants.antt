@@ -1,4 +1,4 @@
-use Rattle.std.proofs.Common.{◌≡◌, ℕ, ◌<◌, true, length, get_or}
+use Rattle.std.proofs.Common.{◌≡◌, true, length}
 use Rattle.frames.specs.SettingsBytes.{vlans_can_be, VlansSay}
 use Rattle.frames.proofs.settings.codec.read_vlans.Given as goal
 

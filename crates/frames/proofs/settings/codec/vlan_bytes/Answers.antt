@@ -1,4 +1,4 @@
-use Rattle.std.proofs.Common.{◌≡◌, ◌/◌, ◌%◌, get_or, refl, ap, arith, rules}
+use Rattle.std.proofs.Common.{◌/◌, ◌%◌, get_or, refl, ap, arith}
 use Rattle.wire.proofs.Rows.{pair-more, pairs-are}
 use Rattle.frames.proofs.settings.codec.vlan_bytes.Goals as goal
 

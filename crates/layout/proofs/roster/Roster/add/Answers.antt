@@ -1,4 +1,4 @@
-use Rattle.std.proofs.Common.{◌≡◌, Ok, sym, refl, ap, ◌∙◌, arith}
+use Rattle.std.proofs.Common.{Ok, sym, refl, ap, ◌∙◌, arith}
 use Rattle.wiring.specs.Rules.{want_access}
 use Rattle.layout.proofs.Finding.{counted, full, added, pushed}
 use Rattle.layout.proofs.roster.Roster.add.Goals as goal

@@ -1,4 +1,4 @@
-use Rattle.std.proofs.Common.{◌≡◌, sym, ap, ◌∙◌}
+use Rattle.std.proofs.Common.{ap, ◌∙◌}
 use Rattle.wiring.specs.Rules.{want_access}
 use Rattle.layout.proofs.Finding.{moved}
 use Rattle.layout.proofs.roster.Roster.relocate.Goals as goal

@@ -1,4 +1,4 @@
-use Rattle.std.proofs.Common.{map, ap, ◌∙◌, arith, rules}
+use Rattle.std.proofs.Common.{map, ap, ◌∙◌, rules}
 use Rattle.queues.specs.Port.{port_of}
 use Rattle.queues.proofs.Ports.{port-push}
 use Rattle.queues.proofs.queues.Queues.new.Goals as goal

@@ -1,4 +1,4 @@
-use Rattle.std.proofs.Common.{sym, refl, ap, ◌∙◌, arith}
+use Rattle.std.proofs.Common.{refl, ap, ◌∙◌, arith}
 use Rattle.rows.specs.Slot.{frame}
 use Rattle.rows.specs.Row.{waiting}
 use Rattle.queues.specs.Port.{Port, port_of, with_frame}

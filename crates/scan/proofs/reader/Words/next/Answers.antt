@@ -1,4 +1,4 @@
-use Rattle.std.proofs.Common.{◌≡◌, ◌∷◌, length, sym, ap, ◌∙◌, arith, true-eqb, false-eqb}
+use Rattle.std.proofs.Common.{◌∷◌, length, sym, ap, ◌∙◌, true-eqb, false-eqb}
 use Rattle.scan.specs.Words.{words_of}
 use Rattle.scan.proofs.Wording.{no_word, none_after, next_word, cut_word}
 use Rattle.scan.proofs.reader.Words.next.Goals as goal
