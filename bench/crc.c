@@ -1,5 +1,6 @@
-/* Times the proved CRC-32 of crates/crc. Build and run, in the repository's folder:
- *   rt staticlib crc && cc -O3 bench/crc.c target/staticlib/libcrc.a -o target/crc_bench && target/crc_bench */
+/* Times the proved CRC-32 of crates/crc, as crates/crc_c gives it to C. Build and run, in the repository's folder:
+ *   (cd crates/crc_c && rt lib) && mkdir -p target/staticlib && cp crates/crc_c/out/libcrc_c.a target/staticlib/libcrc.a
+ *   cc -O3 bench/crc.c target/staticlib/libcrc.a -o target/crc_bench && target/crc_bench */
 #include <stdint.h>
 #include <stdio.h>
 #include <stdlib.h>

@@ -1,5 +1,5 @@
 use crate::{Control, Pending, Version};
-use sets::BridgeId;
+use sets::{BridgeId, BridgeSet};
 use std::test::Fail;
 
 fn bridge(number: u8) -> Result<BridgeId, Fail> {
@@ -51,6 +51,23 @@ fn in_order(rt: HostRuntime) -> Result<(), Fail> {
         (4, 127, 0),
     ];
     for expected in leave {
+        let Some(message) = pending.next() else {
+            return Err(Fail::new("too few"));
+        };
+        assert!(rt; shown(message) == expected);
+    }
+    assert!(rt; pending.next().is_none());
+    Ok(())
+}
+
+// Several bridges at once are added to those that wait, of one kind and of the other.
+#[test]
+fn several_at_once(rt: HostRuntime) -> Result<(), Fail> {
+    let mut pending = Pending::new();
+    pending.add_link_state(bridge(5)?);
+    pending.add_link_states(BridgeSet::only(bridge(127)?).with(bridge(0)?));
+    pending.add_trees(BridgeSet::only(bridge(7)?));
+    for expected in [(3u8, 0u8, 0u64), (3, 5, 0), (3, 127, 0), (4, 7, 0)] {
         let Some(message) = pending.next() else {
             return Err(Fail::new("too few"));
         };
