@@ -4,7 +4,8 @@
 usage: python3 tools/respell.py           rewrites every .rt, .antt and .edit file below crates/, in place
        python3 tools/respell.py --list    prints the names that it turns, old and new, and changes nothing
 
-The rules: a function, a field or a label is in snake case, a type or a fact in upper camel case, and a lemma keeps its dash between two names.
+The rules: a function, a field or a label is in snake case, a type or a fact in upper camel case, and a lemma in snake case too, but that one whose first
+part is a name known in its file, as of the function that it is about, keeps its dash.
 What is turned is found in the files: names declared in specs/ and proofs/, but for what the toolchain names after the code (goals, invariants, measures).
 Constructors of a `data` keep their names, as the variants of an enum do. A name that would fall together with another gets one of its own, below.
 """
@@ -18,12 +19,22 @@ DECLARED = re.compile(r"^(\s*)((?:abbrev |unfoldable |pub )*)(data |record )?([^
 # What the toolchain names after the code.
 MADE = re.compile(r"^(returns|invariant|decreases|loop|overflow|index|branch)(-|$)|-requires$|^in-")
 CHARS = r"[^\s(){}\[\]:,.;λ\"`|]"
-# Names of one crate that would fall together with another there by the rules alone. A lemma that has its function's name gets `_lem`.
+# Names of one crate that would fall together with another there by the rules alone (a lemma that has its function's name gets `_lem`), and local names.
 OWN = {
-    "wire_laws": {"in_two": "in_two_lem", "in_three": "in_three_lem", "in_four": "in_four_lem"},
-    "network": {"is-tree": "is_tree_lem"},
+    "crc": {"low-bits": "low_bits_lem", "split-a": "split_a", "split-b": "split_b"},
+    "messages": {"all-below": "all_below_lem"},
+    "wire_laws": {"in_two": "in_two_lem", "in_three": "in_three_lem", "in_four": "in_four_lem", "can-be": "can_be_lem"},
+    "network": {
+        "is-tree": "is_tree_lem",
+        "tree-of": "tree_of_lem",
+        "believes-up-to": "believes_up_to_lem",
+        "forgets-all": "forgets_all_lem",
+        "neighbour-way": "neighbour_way_lem",
+        "station-way": "station_way_lem",
+    },
     "ports": {"none_below": "none_below_lem"},
-    "bridges": {"not_back": "not_back_lem", "none_of": "none_of_lem", "send_by": "send_by_lem"},
+    "bridges": {"not_back": "not_back_lem", "none_of": "none_of_lem", "send_by": "send_by_lem", "all-below": "all_below_lem", "no-tree": "no_tree_lem", "no-pick": "no_pick"},
+    "queues": {"pending-row": "pending_row", "out-at": "out_at_lem", "port-at": "port_at_lem", "room-at": "room_at_lem"},
     "pending": {"linkAcks": "link_acks_of", "treeAcks": "tree_acks_of"},
 }
 
@@ -44,7 +55,20 @@ def camel(name):
     return "".join(part[:1].upper() + part[1:] for part in name.split("-"))
 
 
-def spelled(name, in_specs, marked):
+def known(text):
+    """What a file of lemmas knows by name: what it imports, and the functions and types that it declares."""
+    found = set()
+    for line in re.sub(r"\n\s+", " ", text).split("\n"):
+        if line.startswith("use "):
+            found.update(snake(w) for w in re.findall(CHARS + "+", line.partition("{")[2] or line.rpartition(".")[2]))
+    for line in text.split("\n"):
+        m = DECLARED.match(line)
+        if m and (m.group(3) or "abbrev" in m.group(2) or "unfoldable" in m.group(2)):
+            found.add(snake(m.group(4)))
+    return found
+
+
+def spelled(name, in_specs, marked, names):
     """The name as the rules spell it."""
     if name.startswith("getD-"):
         return "get_or-" + name[5:]
@@ -52,8 +76,8 @@ def spelled(name, in_specs, marked):
         return camel(name)
     if in_specs or marked:
         return snake(name)
-    # a lemma: its dashes stay, each part is in snake case
-    return "-".join(snake(part) for part in name.split("-"))
+    parts = [snake(part) for part in name.split("-")]
+    return "-".join(parts) if parts[0] in names else "_".join(parts)
 
 
 def turned(root):
@@ -61,16 +85,18 @@ def turned(root):
     for p in files(root):
         if not p.endswith(".antt"):
             continue
-        for line in open(p, encoding="utf-8"):
+        text = open(p, encoding="utf-8").read()
+        names = known(text)
+        for line in text.split("\n"):
             if line.strip().startswith("--"):
                 continue
-            m = DECLARED.match(line.rstrip("\n"))
+            m = DECLARED.match(line)
             if not m:
                 continue
             name = m.group(4)
-            if not re.search(r"[A-Za-z]", name) or MADE.search(name):
+            if not re.search(r"[A-Za-z]", name) or MADE.search(name) or m.group(6).startswith("goal."):
                 continue
-            new = spelled(name, "/specs/" in p, "abbrev" in m.group(2) or "unfoldable" in m.group(2))
+            new = spelled(name, "/specs/" in p, "abbrev" in m.group(2) or "unfoldable" in m.group(2), names)
             if new != name:
                 found[name] = new
     return found

@@ -18,52 +18,52 @@ fresh : List Tree → ℕ
 fresh [] = 0
 fresh (t ∷ ts) = suc t.number + fresh ts
 
-fresh-no : (n : ℕ) (ts : List Tree) → fresh ts ≤ n → tree_of n ts ≡ NoTree
+fresh_no : (n : ℕ) (ts : List Tree) → fresh ts ≤ n → tree_of n ts ≡ NoTree
 unfolding fresh tree_of
-fresh-no n [] h = refl
-fresh-no n (t ∷ ts) h = grind (arith, nat_tests, fresh-no n ts)
+fresh_no n [] h = refl
+fresh_no n (t ∷ ts) h = grind (arith, nat_tests, fresh_no n ts)
 
 -- one tree announced, then adopted by the first k bridges
 rolled : Tree → ℕ → List Event
 rolled t zero = Announce t ∷ []
 rolled t (suc k) = Adopt k t.number ∷ rolled t k
 
-rolled-trees : (t : Tree) (k : ℕ) → T (only_trees (rolled t k))
+rolled_trees : (t : Tree) (k : ℕ) → T (only_trees (rolled t k))
 unfolding rolled only_trees
-rolled-trees t zero = tt
-rolled-trees t (suc k) = rolled-trees t k
+rolled_trees t zero = tt
+rolled_trees t (suc k) = rolled_trees t k
 
-rolled-length : (t : Tree) (k : ℕ) → length (rolled t k) ≡ suc k
+rolled_length : (t : Tree) (k : ℕ) → length (rolled t k) ≡ suc k
 unfolding rolled
-rolled-length t zero = refl
-rolled-length t (suc k) = ap suc (rolled-length t k)
+rolled_length t zero = refl
+rolled_length t (suc k) = ap suc (rolled_length t k)
 
 -- what the first k bridges have of it
 record Rolled (w v : World) (t : Tree) (k : ℕ) : Type 0 where
   trees_so : v.trees ≡ t ∷ w.trees
   up-so : v.up ≡ w.up
-  newest-so : (b : ℕ) → b < k → (ns : List ℕ) × (v.holds b ≡ t.number ∷ ns)
+  newest_so : (b : ℕ) → b < k → (ns : List ℕ) × (v.holds b ≡ t.number ∷ ns)
 
 two-first : (n : ℕ) (ns : List ℕ) → (ms : List ℕ) × (two (n ∷ ns) ≡ n ∷ ms)
 unfolding two
 two-first n [] = ([], refl)
 two-first n (m ∷ ns) = (m ∷ [], refl)
 
-newest-is : (n : ℕ) (ns : List ℕ) → is_newest n ns ≡ true → (ms : List ℕ) × (ns ≡ n ∷ ms)
-newest-is n [] e = absurd (both_ways _ refl e)
-newest-is n (x ∷ xs) e = (xs, ap (λ y. y ∷ xs) (grind (arith, nat_tests)))
+newest_is : (n : ℕ) (ns : List ℕ) → is_newest n ns ≡ true → (ms : List ℕ) × (ns ≡ n ∷ ms)
+newest_is n [] e = absurd (both_ways _ refl e)
+newest_is n (x ∷ xs) e = (xs, ap (λ y. y ∷ xs) (grind (arith, nat_tests)))
 
 found_first : (t : Tree) (ts : List Tree) → tree_of t.number (t ∷ ts) ≡ This t
 unfolding tree_of
 found_first t ts = grind (arith, nat_tests)
 
-newest-at : (v : World) (n k b : ℕ) → b < suc k → (b < k → (ns : List ℕ) × (v.holds b ≡ n ∷ ns)) → (ns : List ℕ) × (at k (two (n ∷ v.holds k)) v.holds b ≡ n ∷ ns)
-newest-at v n k b h old =
+newest_at : (v : World) (n k b : ℕ) → b < suc k → (b < k → (ns : List ℕ) × (v.holds b ≡ n ∷ ns)) → (ns : List ℕ) × (at k (two (n ∷ v.holds k)) v.holds b ≡ n ∷ ns)
+newest_at v n k b h old =
     cond_both (eqb b k) _ _ (λ (xs : List ℕ). (ns : List ℕ) × (xs ≡ n ∷ ns)) (λ e. two-first n (v.holds k)) (λ e. old (grind (arith, nat_tests)))
 
-newest-now : (v : World) (n k b : ℕ) → b < suc k → is_newest n (v.holds k) ≡ true → (b < k → (ns : List ℕ) × (v.holds b ≡ n ∷ ns)) → (ns : List ℕ) × (v.holds b ≡ n ∷ ns)
-newest-now v n k b h e old = cond_both (eqb b k) (v.holds b) (v.holds b) (λ _. (ns : List ℕ) × (v.holds b ≡ n ∷ ns))
-    (λ q. subst (λ (j : ℕ). (ns : List ℕ) × (v.holds j ≡ n ∷ ns)) (sym (eqb-true b k q)) (newest-is n (v.holds k) e))
+newest_now : (v : World) (n k b : ℕ) → b < suc k → is_newest n (v.holds k) ≡ true → (b < k → (ns : List ℕ) × (v.holds b ≡ n ∷ ns)) → (ns : List ℕ) × (v.holds b ≡ n ∷ ns)
+newest_now v n k b h e old = cond_both (eqb b k) (v.holds b) (v.holds b) (λ _. (ns : List ℕ) × (v.holds b ≡ n ∷ ns))
+    (λ q. subst (λ (j : ℕ). (ns : List ℕ) × (v.holds j ≡ n ∷ ns)) (sym (eqb-true b k q)) (newest_is n (v.holds k) e))
     (λ q. old (grind (arith, nat_tests)))
 
 adopts : (lax : Bool) (r : Rules) (w v : World) (t : Tree) (k : ℕ) → looks r.bridges t ≡ true → Rolled w v t k → Rolled w (happen lax r (Adopt k t.number) v) t (suc k)
@@ -77,31 +77,31 @@ adopts lax r w v t k l i = subst (λ (f : Found). Rolled w (adopt_if lax r k t.n
 
     done : Rolled w (adopt_if lax r k t.number (This t) v) t (suc k)
     done = cond_both _ v _ (λ (u : World). Rolled w u t (suc k))
-        (λ e. record { trees_so = i.trees_so; up-so = i.up-so; newest-so = λ b h. newest-now v t.number k b h (already e) (i.newest-so b) })
-        (λ e. record { trees_so = i.trees_so; up-so = i.up-so; newest-so = λ b h. newest-at v t.number k b h (i.newest-so b) })
+        (λ e. record { trees_so = i.trees_so; up-so = i.up-so; newest_so = λ b h. newest_now v t.number k b h (already e) (i.newest_so b) })
+        (λ e. record { trees_so = i.trees_so; up-so = i.up-so; newest_so = λ b h. newest_at v t.number k b h (i.newest_so b) })
 
 rolls : (lax : Bool) (r : Rules) (es : List Event) (t : Tree) → tree_of t.number (run lax r es).trees ≡ NoTree → looks r.bridges t ≡ true → (k : ℕ) →
     Rolled (run lax r es) (run lax r (rolled t k ++ es)) t k
 unfolding rolled run
 rolls lax r es t new l zero = subst (λ (f : Found). Rolled (run lax r es) (announce_if t f (run lax r es)) t 0) (sym new)
-    (record { trees_so = refl; up-so = refl; newest-so = λ b h. absurd (omega arith) })
+    (record { trees_so = refl; up-so = refl; newest_so = λ b h. absurd (omega arith) })
 rolls lax r es t new l (suc k) = adopts lax r (run lax r es) (run lax r (rolled t k ++ es)) t k l (rolls lax r es t new l k)
 
 pub can_rest : (lax : Bool) (r : Rules) (es : List Event) → 0 < r.bridges → ((b : ℕ) → b < r.bridges → Linked r (run lax r es) b) →
     (fs : List Event) × T (only_trees fs) × (length fs ≤ suc r.bridges) × (t : Tree) × (looks r.bridges t ≡ true) × Rests r (run lax r (fs ++ es)) t
 can_rest lax r es some all = (
   rolled t n,
-  rolled-trees t n,
-  omega (arith, rolled-length t n),
+  rolled_trees t n,
+  omega (arith, rolled_length t n),
   t,
   fine,
   record {
     there = subst (λ (ts : List Tree). tree_of t.number ts ≡ This t) (sym i.trees_so) (found_first t w.trees);
-    newest = i.newest-so;
-    links = λ b c h k j. subst (λ (u : ℕ → ℕ → Bool). u b c ≡ true) (sym i.up-so) (Sp.spanning-links n w.up s t.number b c h k j);
-    inside = Sp.spanning-inside n w.up s t.number;
+    newest = i.newest_so;
+    links = λ b c h k j. subst (λ (u : ℕ → ℕ → Bool). u b c ≡ true) (sym i.up-so) (Sp.spanning_links n w.up s t.number b c h k j);
+    inside = Sp.spanning_inside n w.up s t.number;
     top = 0;
-    together = Sp.spanning-together n w.up s t.number;
+    together = Sp.spanning_together n w.up s t.number;
   },
 )
   where
@@ -118,7 +118,7 @@ can_rest lax r es some all = (
     t = Sp.tree_by (fresh w.trees) s
 
     fine : looks n t ≡ true
-    fine = Sp.spanning-looks n w.up s t.number
+    fine = Sp.spanning_looks n w.up s t.number
 
     i : Rolled w (run lax r (rolled t n ++ es)) t n
-    i = rolls lax r es t (fresh-no t.number w.trees (omega arith)) fine n
+    i = rolls lax r es t (fresh_no t.number w.trees (omega arith)) fine n

@@ -13,9 +13,9 @@ pub data Pick (x : Copy) : ℕ → List Copy → Type 0 where
   now : {y : Copy} {ys : List Copy} → y ≡ x → Pick x zero (y ∷ ys)
   later : {i : ℕ} {y : Copy} {ys : List Copy} → Pick x i ys → Pick x (suc i) (y ∷ ys)
 
-pub pick-mem : {x : Copy} {i : ℕ} {xs : List Copy} → Pick x i xs → Memᴰ x xs
-pick-mem (now e) = Memᴰ.head (sym e)
-pick-mem (later p) = Memᴰ.tail (pick-mem p)
+pub pick_mem : {x : Copy} {i : ℕ} {xs : List Copy} → Pick x i xs → Memᴰ x xs
+pick_mem (now e) = Memᴰ.head (sym e)
+pick_mem (later p) = Memᴰ.tail (pick_mem p)
 
 pub without-mem : {x : Copy} (i : ℕ) (xs : List Copy) → Memᴰ x (without i xs) → Memᴰ x xs
 unfolding without
@@ -32,35 +32,35 @@ pub receive-takes : (lax : Bool) (r : Rules) (x : Copy) (t : Tree) (w : World) �
 receive-takes lax r x t w e = grind arith
 
 -- what doesn't look like a tree isn't adopted
-pub adopt-refuses : (lax : Bool) (r : Rules) (b n : ℕ) (t : Tree) (w : World) → looks r.bridges t ≡ false → adopt_if lax r b n (This t) w ≡ w
-adopt-refuses lax r b n t w e = grind arith
+pub adopt_refuses : (lax : Bool) (r : Rules) (b n : ℕ) (t : Tree) (w : World) → looks r.bridges t ≡ false → adopt_if lax r b n (This t) w ≡ w
+adopt_refuses lax r b n t w e = grind arith
 
 -- one entry of a table is written: that of a bridge, a tree and a station
 pub at3-tells : {A : Type 0} (i j k : ℕ) (x : A) (f : ℕ → ℕ → ℕ → A) (p q s : ℕ) → ((p ≡ i) × (q ≡ j) × (s ≡ k) × (at3 i j k x f p q s ≡ x)) ⊎ (at3 i j k x f p q s ≡ f p q s)
 at3-tells i j k x f p q s = grind (arith, nat_tests)
 
 -- forgetting writes nothing but that nothing is known
-pub forget-tells : (lax : Bool) (r : Rules) (b n s : ℕ) (w : World) (p m q : ℕ) → ((happen lax r (Forget b n s) w).learned p m q ≡ Unknown) ⊎ ((happen lax r (Forget b n s) w).learned p m q ≡ w.learned p m q)
-forget-tells lax r b n s w p m q = grind arith
+pub forget_tells : (lax : Bool) (r : Rules) (b n s : ℕ) (w : World) (p m q : ℕ) → ((happen lax r (Forget b n s) w).learned p m q ≡ Unknown) ⊎ ((happen lax r (Forget b n s) w).learned p m q ≡ w.learned p m q)
+forget_tells lax r b n s w p m q = grind arith
 
-pub crash-tells : (lax : Bool) (r : Rules) (b : ℕ) (w : World) (p m q : ℕ) → ((happen lax r (Crash b) w).learned p m q ≡ Unknown) ⊎ ((happen lax r (Crash b) w).learned p m q ≡ w.learned p m q)
-crash-tells lax r b w p m q = grind arith
+pub crash_tells : (lax : Bool) (r : Rules) (b : ℕ) (w : World) (p m q : ℕ) → ((happen lax r (Crash b) w).learned p m q ≡ Unknown) ⊎ ((happen lax r (Crash b) w).learned p m q ≡ w.learned p m q)
+crash_tells lax r b w p m q = grind arith
 
 -- a bridge goes by what it has learnt, or by whence the frame came
-pub goes-tells : (lax : Bool) (x : Copy) (k : Where) → (goes_by lax x k ≡ came_by x.trail) ⊎ (goes_by lax x k ≡ k)
-goes-tells lax x k = grind arith
+pub goes_tells : (lax : Bool) (x : Copy) (k : Where) → (goes_by lax x k ≡ came_by x.trail) ⊎ (goes_by lax x k ≡ k)
+goes_tells lax x k = grind arith
 
 -- a frame that isn't to its sender goes by what is learnt
-pub goes-is : (lax : Bool) (x : Copy) (k : Where) → (x.frame.from ≡ x.frame.to → ⊥) → goes_by lax x k ≡ k
-goes-is lax x k ne = grind (arith, nat_tests)
+pub goes_is : (lax : Bool) (x : Copy) (k : Where) → (x.frame.from ≡ x.frame.to → ⊥) → goes_by lax x k ≡ k
+goes_is lax x k ne = grind (arith, nat_tests)
 
 -- who came by c has the way it came from behind c
 pub came_from : (c : ℕ) (bs : List ℕ) → came_by (c ∷ bs) ≡ Behind c
 came_from c bs = refl
 
 -- not back is not to where it came from
-pub not-back-is : (a : ℕ) (bs : List ℕ) (c : ℕ) → not_back (a ∷ bs) c ≡ true → eqb c a ≡ false
-not-back-is a bs c h = grind (arith, nat_tests)
+pub not_back_is : (a : ℕ) (bs : List ℕ) (c : ℕ) → not_back (a ∷ bs) c ≡ true → eqb c a ≡ false
+not_back_is a bs c h = grind (arith, nat_tests)
 
 -- a copy goes on along the tree, by a link that is up, and not back
 pub floods-tells : (c : ℕ) (t : Tree) (up : ℕ → ℕ → Bool) (x : Copy) → (floods (suc c) t up x ≡ floods c t up x) ⊎
@@ -88,42 +88,42 @@ module _ (lax : Bool) (r : Rules) (P : World → Type 0) where
       by false h = subst P (sym (receive-drops lax r x t w h)) (drop (inr h))
 
   -- a copy arrives: there is none at that place, or it is dropped, or it is handed on
-  pub arrive-by : (i : ℕ) (xs : List Copy) (w : World) → (((x : Copy) → Pick x i xs → ⊥) → P w) → ((x : Copy) → Pick x i xs → Refused w x → P w) →
+  pub arrive_by : (i : ℕ) (xs : List Copy) (w : World) → (((x : Copy) → Pick x i xs → ⊥) → P w) → ((x : Copy) → Pick x i xs → Refused w x → P w) →
       ((x : Copy) (t : Tree) → Pick x i xs → tree_of x.frame.tree w.trees ≡ This t → is_in x.frame.tree (w.holds x.at) ≡ true → P (forward lax r x t w)) →
       P (arrives lax r i xs w)
   unfolding arrives
-  arrive-by zero [] w none drop go = none (λ x p. elim-none p)
+  arrive_by zero [] w none drop go = none (λ x p. elim_none p)
     where
-      elim-none : {x : Copy} {i : ℕ} → Pick x i [] → ⊥
-      elim-none p = elim p [ ]
-  arrive-by (suc i) [] w none drop go = none (λ x p. elim-none p)
+      elim_none : {x : Copy} {i : ℕ} → Pick x i [] → ⊥
+      elim_none p = elim p [ ]
+  arrive_by (suc i) [] w none drop go = none (λ x p. elim_none p)
     where
-      elim-none : {x : Copy} {i : ℕ} → Pick x i [] → ⊥
-      elim-none p = elim p [ ]
-  arrive-by zero (x ∷ xs) w none drop go = receive-by x w (λ h. drop x (now refl) h) (λ t e h. go x t (now refl) e h) (tree_of x.frame.tree w.trees) refl
-  arrive-by (suc i) (x ∷ xs) w none drop go = arrive-by i xs w (λ k. none (λ y p. k y (before p))) (λ y p h. drop y (later p) h) (λ y t p e h. go y t (later p) e h)
+      elim_none : {x : Copy} {i : ℕ} → Pick x i [] → ⊥
+      elim_none p = elim p [ ]
+  arrive_by zero (x ∷ xs) w none drop go = receive-by x w (λ h. drop x (now refl) h) (λ t e h. go x t (now refl) e h) (tree_of x.frame.tree w.trees) refl
+  arrive_by (suc i) (x ∷ xs) w none drop go = arrive_by i xs w (λ k. none (λ y p. k y (before p))) (λ y p h. drop y (later p) h) (λ y t p e h. go y t (later p) e h)
     where
       before : {y : Copy} → Pick y (suc i) (x ∷ xs) → Pick y i xs
       before (later p) = p
 
   -- a tree is announced: unless its number is taken
-  pub announce-by : (t : Tree) (w : World) → P w → (tree_of t.number w.trees ≡ NoTree → P (announce_if t NoTree w)) → P (announce_if t (tree_of t.number w.trees) w)
-  announce-by t w old new = go (tree_of t.number w.trees) refl
+  pub announce_by : (t : Tree) (w : World) → P w → (tree_of t.number w.trees ≡ NoTree → P (announce_if t NoTree w)) → P (announce_if t (tree_of t.number w.trees) w)
+  announce_by t w old new = go (tree_of t.number w.trees) refl
     where
       go : (f : Found) → tree_of t.number w.trees ≡ f → P (announce_if t f w)
       go NoTree e = new e
       go (This u) e = old
 
   -- a tree is adopted: if it was announced and looks like one
-  pub adopt-by : (b n : ℕ) (w : World) → P w →
+  pub adopt_by : (b n : ℕ) (w : World) → P w →
       ((t : Tree) → tree_of n w.trees ≡ This t → looks r.bridges t ≡ true →
       P (record { home = w.home; up = w.up; trees = w.trees; holds = at b (two (n ∷ w.holds b)) w.holds; learned = w.learned; copies = w.copies; got = w.got; next = w.next })) →
       P (adopt_if lax r b n (tree_of n w.trees) w)
-  adopt-by b n w old new = go (tree_of n w.trees) refl
+  adopt_by b n w old new = go (tree_of n w.trees) refl
     where
       by : (t : Tree) → tree_of n w.trees ≡ This t → (x : Bool) → looks r.bridges t ≡ x → P (adopt_if lax r b n (This t) w)
       by t e true l = cond_both _ w _ P (λ _. old) (λ _. new t e l)
-      by t e false l = subst P (sym (adopt-refuses lax r b n t w l)) old
+      by t e false l = subst P (sym (adopt_refuses lax r b n t w l)) old
 
       go : (f : Found) → tree_of n w.trees ≡ f → P (adopt_if lax r b n f w)
       go NoTree e = old

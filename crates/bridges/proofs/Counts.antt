@@ -52,10 +52,10 @@ count_below zero q = 0
 count_below (suc k) q = one (q k) + count_below k q
 
 -- none passes, or one that can be named
-pub below-some : (k : ℕ) (q : ℕ → Bool) → (count_below k q ≡ 0) ⊎ ((c : ℕ) × (c < k) × (q c ≡ true))
+pub below_some : (k : ℕ) (q : ℕ → Bool) → (count_below k q ≡ 0) ⊎ ((c : ℕ) × (c < k) × (q c ≡ true))
 unfolding count_below
-below-some zero q = inl refl
-below-some (suc k) q = go (q k) refl (below-some k q)
+below_some zero q = inl refl
+below_some (suc k) q = go (q k) refl (below_some k q)
   where
     go : (b : Bool) → q k ≡ b → (count_below k q ≡ 0) ⊎ ((c : ℕ) × (c < k) × (q c ≡ true)) → (one (q k) + count_below k q ≡ 0) ⊎ ((c : ℕ) × (c < suc k) × (q c ≡ true))
     go true e h = inr (k, omega arith, e)
@@ -63,7 +63,7 @@ below-some (suc k) q = go (q k) refl (below-some k q)
     go false e (inr h) = inr (h.0, let lt = h.1 in omega arith, h.2)
 
 pub below_none : (k : ℕ) (q : ℕ → Bool) → ((c : ℕ) → c < k → q c ≡ true → ⊥) → count_below k q ≡ 0
-below_none k q h = elim (below-some k q) [ inl e ↦ e | inr s ↦ absurd (h s.0 s.1 s.2) ]
+below_none k q h = elim (below_some k q) [ inl e ↦ e | inr s ↦ absurd (h s.0 s.1 s.2) ]
 
 pub below_one : (k : ℕ) (q : ℕ → Bool) → ((c d : ℕ) → c < k → d < k → q c ≡ true → q d ≡ true → c ≡ d) → count_below k q ≤ 1
 unfolding count_below
@@ -77,15 +77,15 @@ below_one (suc k) q h = go (q k) refl (below_one k q (λ c d lc ld. h c d (omega
         apart c lc q = omega arith
     go false e ih = let y = one_same (q k) false e in omega arith
 
-pub below-has : (k : ℕ) (q : ℕ → Bool) (c : ℕ) → c < k → q c ≡ true → 1 ≤ count_below k q
+pub below_has : (k : ℕ) (q : ℕ → Bool) (c : ℕ) → c < k → q c ≡ true → 1 ≤ count_below k q
 unfolding count_below
-below-has zero q c lt e = absurd (omega arith)
-below-has (suc k) q c lt e = elim (ℕ_discrete c k) [ yes p ↦ (let y = one_same (q k) true (ap q (sym p) ∙ e) in omega arith) | no n ↦ (let ih = below-has k q c (omega arith) e in omega arith) ]
+below_has zero q c lt e = absurd (omega arith)
+below_has (suc k) q c lt e = elim (ℕ_discrete c k) [ yes p ↦ (let y = one_same (q k) true (ap q (sym p) ∙ e) in omega arith) | no n ↦ (let ih = below_has k q c (omega arith) e in omega arith) ]
 
-pub below-same : (k : ℕ) (p q : ℕ → Bool) → ((c : ℕ) → p c ≡ q c) → count_below k p ≡ count_below k q
+pub below_same : (k : ℕ) (p q : ℕ → Bool) → ((c : ℕ) → p c ≡ q c) → count_below k p ≡ count_below k q
 unfolding count_below
-below-same zero p q h = refl
-below-same (suc k) p q h = let e = one_same (p k) (q k) (h k) in let ih = below-same k p q h in omega arith
+below_same zero p q h = refl
+below_same (suc k) p q h = let e = one_same (p k) (q k) (h k) in let ih = below_same k p q h in omega arith
 
 -- the copies that a bridge floods, and what it hands to stations, counted below the number of bridges and of stations
 pub floods-count : (p : Copy → Bool) (k : ℕ) (t : Tree) (up : ℕ → ℕ → Bool) (x : Copy) →

@@ -4,7 +4,7 @@ use Rattle.bridges.proofs.NoRound.{no_round}
 use Rattle.bridges.proofs.Twice.{not_twice, once_if_still}
 use Rattle.bridges.proofs.Vlan.{right_vlan, one_sender}
 use Rattle.bridges.proofs.Learnt.{learnt_right}
-use Rattle.bridges.proofs.Arrives.{arrives-once}
+use Rattle.bridges.proofs.Arrives.{arrives_once}
 use Rattle.bridges.proofs.CanRest.{can_rest}
 
 pub guaranteed : Guaranteed
@@ -15,6 +15,6 @@ guaranteed lax r es = record {
   right_vlan = right_vlan lax r es;
   one_sender = one_sender lax r es;
   learnt_right = learnt_right lax r es;
-  arrives = arrives-once lax r es;
+  arrives = arrives_once lax r es;
   can_rest = can_rest lax r es;
 }

@@ -9,8 +9,8 @@ use Rattle.std.proofs.lemmas.Bool.{cond_both, ne_eqb}
 use Rattle.trees.specs.Tree.{Tree, looks, joined, Walk, here, first, on, is_in, all_below}
 use Rattle.bridges.specs.Net.{Copy, Where, Unknown, Here, Behind, Got, Rules, World, NoTree, This, tree_of, came_by, not_back, copy_to, floods, toward, knows, learns, without, with_copies, two, send_by}
 use Rattle.bridges.specs.Fabric.{Event, Send, Arrive, Lose, Believe, Announce, Adopt, Move, Forget, Crash, Turn, goes_by, may_hand, handed, forward, turned, happen, run}
-use Rattle.trees.proofs.Simple.{below-2}
-use Rattle.bridges.proofs.Changes.{at3-tells, forget-tells, crash-tells, goes-tells, not-back-is, floods-tells, toward-tells, pick-mem, without-mem, arrive-by, announce-by, adopt-by, send_by_lem}
+use Rattle.trees.proofs.Simple.{below_2}
+use Rattle.bridges.proofs.Changes.{at3-tells, forget_tells, crash_tells, goes_tells, not_back_is, floods-tells, toward-tells, pick_mem, without-mem, arrive_by, announce_by, adopt_by, send_by_lem}
 
 pub record Known (r : Rules) (trees : List Tree) (n : ℕ) : Type 0 where
   pub t : Tree
@@ -43,16 +43,16 @@ pub record Onward (t : Tree) (up : ℕ → ℕ → Bool) (x : Copy) (k : Where) 
   pub to : ℕ
   pub is : y ≡ copy_to x to
   pub by : joined t x.at to ≡ true
-  pub open-link : up x.at to ≡ true
+  pub open_link : up x.at to ≡ true
   pub forth : not_back x.trail to ≡ true
   pub place : (to < n) ⊎ (k ≡ Behind to)
 
 onward : (t : Tree) (up : ℕ → ℕ → Bool) (x : Copy) (k : Where) (n c : ℕ) (y : Copy) → y ≡ copy_to x c → (c < n) ⊎ (k ≡ Behind c) →
     (joined t x.at c ≡ true) → (up x.at c ≡ true) → (not_back x.trail c ≡ true) → Onward t up x k n y
-onward t up x k n c y e p j u b = record { to = c; is = e; by = j; open-link = u; forth = b; place = p }
+onward t up x k n c y e p j u b = record { to = c; is = e; by = j; open_link = u; forth = b; place = p }
 
 wider : {t : Tree} {up : ℕ → ℕ → Bool} {x : Copy} {k : Where} {n : ℕ} {y : Copy} → Onward t up x k n y → Onward t up x k (suc n) y
-wider {k} {n} o = record { to = o.to; is = o.is; by = o.by; open-link = o.open-link; forth = o.forth; place = go o.place }
+wider {k} {n} o = record { to = o.to; is = o.is; by = o.by; open_link = o.open_link; forth = o.forth; place = go o.place }
   where
     go : (o.to < n) ⊎ (k ≡ Behind o.to) → (o.to < suc n) ⊎ (k ≡ Behind o.to)
     go (inl lt) = inl (omega arith)
@@ -90,25 +90,25 @@ handed-mem lax r w x k (suc s) g m =
 -- going on from a walk
 walk-on : (t : Tree) (b c : ℕ) (bs : List ℕ) → Walk t (b ∷ bs) → joined t b c ≡ true → not_back bs c ≡ true → Walk t (c ∷ (b ∷ bs))
 walk-on t b c [] w j nb = first c j
-walk-on t b c (a ∷ bs) w j nb = on c w j (not-back-is a bs c nb)
+walk-on t b c (a ∷ bs) w j nb = on c w j (not_back_is a bs c nb)
 
-all-below : (n c : ℕ) (bs : List ℕ) → c < n → all_below n bs ≡ true → all_below n (c ∷ bs) ≡ true
+all_below_lem : (n c : ℕ) (bs : List ℕ) → c < n → all_below n bs ≡ true → all_below n (c ∷ bs) ≡ true
 unfolding all_below
-all-below n c bs lt h = grind (arith, nat_tests)
+all_below_lem n c bs lt h = grind (arith, nat_tests)
 
-came-behind : (r : Rules) (n b : ℕ) (bs : List ℕ) → (0 < n → all_below n (b ∷ bs) ≡ true) → (n ≡ 0 → bs ≡ []) → (c : ℕ) → came_by bs ≡ Behind c → c < n
-came-behind r n b [] h z c e = absurd (grind arith)
-came-behind r zero b (a ∷ bs) h z c e = absurd (let q = z refl in grind arith)
-came-behind r (suc n) b (a ∷ bs) h z c e = let q = below-2 (suc n) b a bs (h (omega arith)) in grind arith
+came_behind : (r : Rules) (n b : ℕ) (bs : List ℕ) → (0 < n → all_below n (b ∷ bs) ≡ true) → (n ≡ 0 → bs ≡ []) → (c : ℕ) → came_by bs ≡ Behind c → c < n
+came_behind r n b [] h z c e = absurd (grind arith)
+came_behind r zero b (a ∷ bs) h z c e = absurd (let q = z refl in grind arith)
+came_behind r (suc n) b (a ∷ bs) h z c e = let q = below_2 (suc n) b a bs (h (omega arith)) in grind arith
 
-pub goes-behind : (lax : Bool) (r : Rules) (trees : List Tree) (x : Copy) (k : Where) → Walks r trees x → ((c : ℕ) → k ≡ Behind c → (c < r.bridges) ⊎ (c ≡ x.at)) →
+pub goes_behind : (lax : Bool) (r : Rules) (trees : List Tree) (x : Copy) (k : Where) → Walks r trees x → ((c : ℕ) → k ≡ Behind c → (c < r.bridges) ⊎ (c ≡ x.at)) →
     (c : ℕ) → goes_by lax x k ≡ Behind c → (c < r.bridges) ⊎ (c ≡ x.at)
-goes-behind lax r trees x k o h c e = elim (goes-tells lax x k) [ inl q ↦ inl (came-behind r r.bridges x.at x.trail o.inside o.still c (sym q ∙ e)) | inr q ↦ h c (sym q ∙ e) ]
+goes_behind lax r trees x k o h c e = elim (goes_tells lax x k) [ inl q ↦ inl (came_behind r r.bridges x.at x.trail o.inside o.still c (sym q ∙ e)) | inr q ↦ h c (sym q ∙ e) ]
 
 -- each copy that a bridge makes of one that is on a walk is on a walk
-pub walks-on : (r : Rules) (trees : List Tree) (up : ℕ → ℕ → Bool) (x : Copy) (t : Tree) (k : Where) → tree_of x.frame.tree trees ≡ This t → Walks r trees x →
+pub walks_on : (r : Rules) (trees : List Tree) (up : ℕ → ℕ → Bool) (x : Copy) (t : Tree) (k : Where) → tree_of x.frame.tree trees ≡ This t → Walks r trees x →
     ((c : ℕ) → k ≡ Behind c → (c < r.bridges) ⊎ (c ≡ x.at)) → (y : Copy) → Onward t up x k r.bridges y → Walks r trees y
-walks-on r trees up x t k e o h y w = subst (λ z. Walks r trees z) (sym w.is) (go (place w.place))
+walks_on r trees up x t k e o h y w = subst (λ z. Walks r trees z) (sym w.is) (go (place w.place))
   where
     c : ℕ
     c = w.to
@@ -129,7 +129,7 @@ walks-on r trees up x t k e o h y w = subst (λ z. Walks r trees z) (sym w.is) (
       is = e;
       good = subst (λ u. looks r.bridges u ≡ true) same o.good;
       walk = walk-on t x.at c x.trail (subst (λ u. Walk u (x.at ∷ x.trail)) same o.walk) w.by w.forth;
-      inside = λ p. all-below r.bridges c (x.at ∷ x.trail) lt (o.inside p);
+      inside = λ p. all_below_lem r.bridges c (x.at ∷ x.trail) lt (o.inside p);
       still = λ p. absurd (omega arith);
     }
 
@@ -137,8 +137,8 @@ pub tree-stays : (t u : Tree) (n : ℕ) (ts : List Tree) → tree_of t.number ts
 unfolding tree_of
 tree-stays t u n ts e h = elim (ℕ_discrete t.number n) [ yes q ↦ absurd (let z = subst (λ m. tree_of m ts ≡ NoTree) q e in grind arith) | no k ↦ rw (ne_eqb t.number n k) h ]
 
-pub walks-stay : (r : Rules) (t : Tree) (ts : List Tree) → tree_of t.number ts ≡ NoTree → (x : Copy) → Walks r ts x → Walks r (t ∷ ts) x
-walks-stay r t ts e x o = record { t = o.t; is = tree-stays t o.t x.frame.tree ts e o.is; good = o.good; walk = o.walk; inside = o.inside; still = o.still }
+pub walks_stay : (r : Rules) (t : Tree) (ts : List Tree) → tree_of t.number ts ≡ NoTree → (x : Copy) → Walks r ts x → Walks r (t ∷ ts) x
+walks_stay r t ts e x o = record { t = o.t; is = tree-stays t o.t x.frame.tree ts e o.is; good = o.good; walk = o.walk; inside = o.inside; still = o.still }
 
 is_known : (r : Rules) (t : Tree) (ts : List Tree) → tree_of t.number ts ≡ NoTree → (n : ℕ) → Known r ts n → Known r (t ∷ ts) n
 is_known r t ts e n k = record { t = k.t; is = tree-stays t k.t n ts e k.is; good = k.good }
@@ -148,18 +148,18 @@ unfolding is_in two
 in_two n m [] h = grind (arith, nat_tests)
 in_two n m (x ∷ xs) h = grind (arith, nat_tests)
 
-pub first-in : (n : ℕ) (ns : List ℕ) → is_in n (n ∷ ns) ≡ true
+pub first_in : (n : ℕ) (ns : List ℕ) → is_in n (n ∷ ns) ≡ true
 unfolding is_in
-first-in n ns = grind (arith, nat_tests)
+first_in n ns = grind (arith, nat_tests)
 
-no-tree-before : (t : Tree) (n : ℕ) (ts : List Tree) → tree_of n (t ∷ ts) ≡ NoTree → tree_of n ts ≡ NoTree
+no_tree_before : (t : Tree) (n : ℕ) (ts : List Tree) → tree_of n (t ∷ ts) ≡ NoTree → tree_of n ts ≡ NoTree
 unfolding tree_of
-no-tree-before t n ts h = cond_both (eqb t.number n) (This t) (tree_of n ts) (λ f. f ≡ NoTree → tree_of n ts ≡ NoTree) (λ _ e. absurd (grind arith)) (λ _ e. e) h
+no_tree_before t n ts h = cond_both (eqb t.number n) (This t) (tree_of n ts) (λ f. f ≡ NoTree → tree_of n ts ≡ NoTree) (λ _ e. absurd (grind arith)) (λ _ e. e) h
 
 module _ (lax : Bool) (r : Rules) where
   -- fewer copies
-  keeps-less : (i : ℕ) (w : World) → Keeps lax r w → Keeps lax r (with_copies (without i w.copies) w)
-  keeps-less i w k = record {
+  keeps_less : (i : ℕ) (w : World) → Keeps lax r w → Keeps lax r (with_copies (without i w.copies) w)
+  keeps_less i w k = record {
     homes = k.homes;
     held = k.held;
     behind = k.behind;
@@ -169,22 +169,22 @@ module _ (lax : Bool) (r : Rules) where
     old = k.old;
   }
 
-  keeps-forward : (x : Copy) (t : Tree) (w : World) → Keeps lax r w → Walks r w.trees x → x.frame.number < w.next → tree_of x.frame.tree w.trees ≡ This t → Keeps lax r (forward lax r x t w)
-  keeps-forward x t w k o lt e = record {
+  keeps_forward : (x : Copy) (t : Tree) (w : World) → Keeps lax r w → Walks r w.trees x → x.frame.number < w.next → tree_of x.frame.tree w.trees ≡ This t → Keeps lax r (forward lax r x t w)
+  keeps_forward x t w k o lt e = record {
     homes = k.homes;
     held = k.held;
-    behind = λ b n s c q. elim (heard b n s) [ inl h ↦ inl (came-behind r r.bridges x.at x.trail o.inside o.still c (sym h.3 ∙ q)) | inr h ↦ k.behind b n s c (sym h ∙ q) ];
+    behind = λ b n s c q. elim (heard b n s) [ inl h ↦ inl (came_behind r r.bridges x.at x.trail o.inside o.still c (sym h.3 ∙ q)) | inr h ↦ k.behind b n s c (sym h ∙ q) ];
     blank = λ b n s z. elim (heard b n s) [ inl h ↦ absurd (no_such h.1 z) | inr h ↦ h ∙ k.blank b n s z ];
-    walks = λ y m. elim (Memᴰ.append_cases (toward t w.up x known r.bridges) m) [ inl m' ↦ walks-on r w.trees w.up x t known e o by y (toward-mem t w.up x known r.bridges y m') | inr m' ↦ k.walks y m' ];
-    fresh = λ y m. elim (Memᴰ.append_cases (toward t w.up x known r.bridges) m) [ inl m' ↦ new-fresh y (toward-mem t w.up x known r.bridges y m') | inr m' ↦ k.fresh y m' ];
-    old = λ g m. elim (Memᴰ.append_cases (handed lax r w x known r.stations) m) [ inl m' ↦ new-old g (handed-mem lax r w x known r.stations g m') | inr m' ↦ k.old g m' ];
+    walks = λ y m. elim (Memᴰ.append_cases (toward t w.up x known r.bridges) m) [ inl m' ↦ walks_on r w.trees w.up x t known e o by y (toward-mem t w.up x known r.bridges y m') | inr m' ↦ k.walks y m' ];
+    fresh = λ y m. elim (Memᴰ.append_cases (toward t w.up x known r.bridges) m) [ inl m' ↦ new_fresh y (toward-mem t w.up x known r.bridges y m') | inr m' ↦ k.fresh y m' ];
+    old = λ g m. elim (Memᴰ.append_cases (handed lax r w x known r.stations) m) [ inl m' ↦ new_old g (handed-mem lax r w x known r.stations g m') | inr m' ↦ k.old g m' ];
   }
     where
       known : Where
       known = goes_by lax x (knows w x)
 
       by : (c : ℕ) → known ≡ Behind c → (c < r.bridges) ⊎ (c ≡ x.at)
-      by c q = goes-behind lax r w.trees x (knows w x) o (λ d. k.behind x.at x.frame.tree x.frame.to d) c q
+      by c q = goes_behind lax r w.trees x (knows w x) o (λ d. k.behind x.at x.frame.tree x.frame.to d) c q
 
       heard : (b n s : ℕ) → ((b ≡ x.at) × (n ≡ x.frame.tree) × (s ≡ x.frame.from) × (learns x w.learned b n s ≡ came_by x.trail)) ⊎ (learns x w.learned b n s ≡ w.learned b n s)
       heard b n s = at3-tells x.at x.frame.tree x.frame.from (came_by x.trail) w.learned b n s
@@ -192,11 +192,11 @@ module _ (lax : Bool) (r : Rules) where
       no_such : {n : ℕ} → n ≡ x.frame.tree → tree_of n w.trees ≡ NoTree → ⊥
       no_such q z = let y = subst (λ m. tree_of m w.trees ≡ NoTree) q z in grind arith
 
-      new-fresh : (y : Copy) → Onward t w.up x known r.bridges y → y.frame.number < w.next
-      new-fresh y o' = subst (λ z. z.frame.number < w.next) (sym o'.is) lt
+      new_fresh : (y : Copy) → Onward t w.up x known r.bridges y → y.frame.number < w.next
+      new_fresh y o' = subst (λ z. z.frame.number < w.next) (sym o'.is) lt
 
-      new-old : (g : Got) → (s : ℕ) × (g ≡ record { frame = x.frame.number; station = s; bridge = x.at }) × (may_hand lax r w x known s ≡ true) → g.frame < w.next
-      new-old g h = subst (λ z. z.frame < w.next) (sym h.1) lt
+      new_old : (g : Got) → (s : ℕ) × (g ≡ record { frame = x.frame.number; station = s; bridge = x.at }) × (may_hand lax r w x known s ≡ true) → g.frame < w.next
+      new_old g h = subst (λ z. z.frame < w.next) (sym h.1) lt
 
   keeps_send : (s d n : ℕ) (ns : List ℕ) (w : World) → Keeps lax r w → w.holds (w.home s) ≡ n ∷ ns → (lax || ltb (w.home s) r.bridges) ≡ true → Keeps lax r (send_by r s d (n ∷ ns) w)
   unfolding send_by
@@ -205,7 +205,7 @@ module _ (lax : Bool) (r : Rules) where
     held = k.held;
     behind = k.behind;
     blank = k.blank;
-    walks = λ y m. elim (Memᴰ.cases_cons m) [ inl q ↦ subst (λ z. Walks r w.trees z) (sym q) (new (k.held (w.home s) n (subst (λ hs. is_in n hs ≡ true) (sym e) (first-in n ns)))) | inr m' ↦ k.walks y m' ];
+    walks = λ y m. elim (Memᴰ.cases_cons m) [ inl q ↦ subst (λ z. Walks r w.trees z) (sym q) (new (k.held (w.home s) n (subst (λ hs. is_in n hs ≡ true) (sym e) (first_in n ns)))) | inr m' ↦ k.walks y m' ];
     fresh = λ y m. elim (Memᴰ.cases_cons m) [ inl q ↦ subst (λ z. z.frame.number < (send_by r s d (n ∷ ns) w).next) (sym q) newest | inr m' ↦ up_one y.frame.number (k.fresh y m') ];
     old = λ g m. up_one g.frame (k.old g m);
   }
@@ -217,7 +217,7 @@ module _ (lax : Bool) (r : Rules) where
       up_one a h = omega arith
 
       new : Known r w.trees n → Walks r w.trees (record { frame = record { number = w.next; from = s; to = d; colour = r.colour s; tree = n }; at = w.home s; trail = [] })
-      new h = record { t = h.t; is = h.is; good = h.good; walk = here (w.home s); inside = λ p. all-below r.bridges (w.home s) [] (inside p) nothing; still = λ _. refl }
+      new h = record { t = h.t; is = h.is; good = h.good; walk = here (w.home s); inside = λ p. all_below_lem r.bridges (w.home s) [] (inside p) nothing; still = λ _. refl }
         where
           nothing : all_below r.bridges [] ≡ true
           nothing = unfold all_below in refl
@@ -228,22 +228,22 @@ module _ (lax : Bool) (r : Rules) where
           inside : 0 < r.bridges → w.home s < r.bridges
           inside p = elim (either lax (w.home s) r.bridges on-net) [ inl l ↦ k.homes l s p | inr lt ↦ lt ]
 
-  keeps-step : (e : Event) (w : World) → Keeps lax r w → Keeps lax r (happen lax r e w)
-  keeps-step (Send s d) w k = send_by_lem lax r (Keeps lax r) s d w k (λ n ns h c _ _. keeps_send s d n ns w k h c)
-  keeps-step (Arrive i) w k = let less = keeps-less i w k in arrive-by lax r (Keeps lax r) i w.copies (with_copies (without i w.copies) w) (λ _. less) (λ _ _ _. less)
-      (λ x t p e _. keeps-forward x t (with_copies (without i w.copies) w) less (k.walks x (pick-mem p)) (k.fresh x (pick-mem p)) e)
-  keeps-step (Lose i) w k = keeps-less i w k
-  keeps-step (Believe a b c) w k = k
-  keeps-step (Announce t) w k = announce-by lax r (Keeps lax r) t w k (λ e. record {
+  keeps_step : (e : Event) (w : World) → Keeps lax r w → Keeps lax r (happen lax r e w)
+  keeps_step (Send s d) w k = send_by_lem lax r (Keeps lax r) s d w k (λ n ns h c _ _. keeps_send s d n ns w k h c)
+  keeps_step (Arrive i) w k = let less = keeps_less i w k in arrive_by lax r (Keeps lax r) i w.copies (with_copies (without i w.copies) w) (λ _. less) (λ _ _ _. less)
+      (λ x t p e _. keeps_forward x t (with_copies (without i w.copies) w) less (k.walks x (pick_mem p)) (k.fresh x (pick_mem p)) e)
+  keeps_step (Lose i) w k = keeps_less i w k
+  keeps_step (Believe a b c) w k = k
+  keeps_step (Announce t) w k = announce_by lax r (Keeps lax r) t w k (λ e. record {
     homes = k.homes;
     held = λ b n h. is_known r t w.trees e n (k.held b n h);
     behind = k.behind;
-    blank = λ b n s h. k.blank b n s (no-tree-before t n w.trees h);
-    walks = λ x m. walks-stay r t w.trees e x (k.walks x m);
+    blank = λ b n s h. k.blank b n s (no_tree_before t n w.trees h);
+    walks = λ x m. walks_stay r t w.trees e x (k.walks x m);
     fresh = k.fresh;
     old = k.old;
   })
-  keeps-step (Adopt b n) w k = adopt-by lax r (Keeps lax r) b n w k (λ t e l. record {
+  keeps_step (Adopt b n) w k = adopt_by lax r (Keeps lax r) b n w k (λ t e l. record {
     homes = k.homes;
     held = λ p m. cond_both (eqb p b) (two (n ∷ w.holds b)) (w.holds p) (λ hs. is_in m hs ≡ true → Known r w.trees m)
         (λ _ h. elim (in_two m n (w.holds b) h) [ inl q ↦ subst (λ z. Known r w.trees z) q (record { t = t; is = e; good = l }) | inr h' ↦ k.held b m h' ]) (λ _ h. k.held p m h);
@@ -253,7 +253,7 @@ module _ (lax : Bool) (r : Rules) where
     fresh = k.fresh;
     old = k.old;
   })
-  keeps-step (Move s b) w k = cond_both (not lax || ltb b r.bridges) _ w (Keeps lax r) (λ h. record {
+  keeps_step (Move s b) w k = cond_both (not lax || ltb b r.bridges) _ w (Keeps lax r) (λ h. record {
     homes = λ l q p. cond_both (eqb q s) b (w.home q) (λ c. c < r.bridges) (λ _. there lax b r.bridges h l) (λ _. k.homes l q p);
     held = k.held;
     behind = k.behind;
@@ -265,11 +265,11 @@ module _ (lax : Bool) (r : Rules) where
     where
       there : (x : Bool) (a b : ℕ) → (not x || ltb a b) ≡ true → x ≡ true → a < b
       there x a b h l = grind (arith, nat_tests)
-  keeps-step (Forget b n s) w k = record {
+  keeps_step (Forget b n s) w k = record {
     homes = k.homes;
     held = k.held;
-    behind = λ p m q c e. elim (forget-tells lax r b n s w p m q) [ inl h ↦ absurd (unknown (sym h ∙ e)) | inr h ↦ k.behind p m q c (sym h ∙ e) ];
-    blank = λ p m q z. elim (forget-tells lax r b n s w p m q) [ inl h ↦ h | inr h ↦ h ∙ k.blank p m q z ];
+    behind = λ p m q c e. elim (forget_tells lax r b n s w p m q) [ inl h ↦ absurd (unknown (sym h ∙ e)) | inr h ↦ k.behind p m q c (sym h ∙ e) ];
+    blank = λ p m q z. elim (forget_tells lax r b n s w p m q) [ inl h ↦ h | inr h ↦ h ∙ k.blank p m q z ];
     walks = k.walks;
     fresh = k.fresh;
     old = k.old;
@@ -277,11 +277,11 @@ module _ (lax : Bool) (r : Rules) where
     where
       unknown : {c : ℕ} → Unknown ≡ Behind c → ⊥
       unknown e = grind arith
-  keeps-step (Crash b) w k = record {
+  keeps_step (Crash b) w k = record {
     homes = k.homes;
     held = λ p m. cond_both (eqb p b) [] (w.holds p) (λ hs. is_in m hs ≡ true → Known r w.trees m) (λ _ h. absurd (nothing m h)) (λ _ h. k.held p m h);
-    behind = λ p m q c e. elim (crash-tells lax r b w p m q) [ inl h ↦ absurd (unknown (sym h ∙ e)) | inr h ↦ k.behind p m q c (sym h ∙ e) ];
-    blank = λ p m q z. elim (crash-tells lax r b w p m q) [ inl h ↦ h | inr h ↦ h ∙ k.blank p m q z ];
+    behind = λ p m q c e. elim (crash_tells lax r b w p m q) [ inl h ↦ absurd (unknown (sym h ∙ e)) | inr h ↦ k.behind p m q c (sym h ∙ e) ];
+    blank = λ p m q z. elim (crash_tells lax r b w p m q) [ inl h ↦ h | inr h ↦ h ∙ k.blank p m q z ];
     walks = k.walks;
     fresh = k.fresh;
     old = k.old;
@@ -292,19 +292,19 @@ module _ (lax : Bool) (r : Rules) where
 
       nothing : (m : ℕ) → is_in m [] ≡ true → ⊥
       nothing m e = unfold is_in in grind arith
-  keeps-step (Turn b n s ok) w k = record {
+  keeps_step (Turn b n s ok) w k = record {
     homes = k.homes;
     held = k.held;
     behind = λ p m q c. cond_both (eqb p b && (eqb m n && eqb q s)) (turned b ok (w.learned p m q)) (w.learned p m q) (λ v. v ≡ Behind c → (c < r.bridges) ⊎ (c ≡ p))
-        (λ h e. turned-behind p b c ok r.bridges (w.learned p m q) (bridge-is p b _ h) (k.behind p m q c) e) (λ _ e. k.behind p m q c e);
+        (λ h e. turned-behind p b c ok r.bridges (w.learned p m q) (bridge_is p b _ h) (k.behind p m q c) e) (λ _ e. k.behind p m q c e);
     blank = λ p m q z. cond_both (eqb p b && (eqb m n && eqb q s)) (turned b ok (w.learned p m q)) (w.learned p m q) (λ v. v ≡ Unknown) (λ _. ap (turned b ok) (k.blank p m q z)) (λ _. k.blank p m q z);
     walks = k.walks;
     fresh = k.fresh;
     old = k.old;
   }
     where
-      bridge-is : (p b : ℕ) (x : Bool) → (eqb p b && x) ≡ true → p ≡ b
-      bridge-is p b x h = grind (arith, nat_tests)
+      bridge_is : (p b : ℕ) (x : Bool) → (eqb p b && x) ≡ true → p ≡ b
+      bridge_is p b x h = grind (arith, nat_tests)
 
       turned-behind : (p b c : ℕ) (ok : Bool) (n : ℕ) (v : Where) → p ≡ b → (v ≡ Behind c → (c < n) ⊎ (c ≡ p)) → turned b ok v ≡ Behind c → (c < n) ⊎ (c ≡ p)
       turned-behind p b c ok n Unknown q h e = absurd (grind arith)
@@ -328,4 +328,4 @@ module _ (lax : Bool) (r : Rules) where
 
       nothing : (m : ℕ) → is_in m [] ≡ true → ⊥
       nothing m e = unfold is_in in grind arith
-  keeps (e ∷ es) = keeps-step e (run lax r es) (keeps es)
+  keeps (e ∷ es) = keeps_step e (run lax r es) (keeps es)

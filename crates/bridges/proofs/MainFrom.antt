@@ -96,18 +96,18 @@ translated-append (Falls b ∷ fs) es = ap (λ (gs : List Event). Crash b ∷ gs
 
 -- what is said of events
 
-sent-so : (r : Rules) (es : List Ev) (f s d : ℕ) → sent_by true r (translated es) f s d ≡ true → sent_in r es f s d ≡ true
+sent_so : (r : Rules) (es : List Ev) (f s d : ℕ) → sent_by true r (translated es) f s d ≡ true → sent_in r es f s d ≡ true
 unfolding translated sent_in sent_by
-sent-so r [] f s d e = e
-sent-so r (Sends a c ∷ es) f s d e = grind (arith, nat_tests, sent-so r es f s d, ap (λ (w : World). w.next) (same r es))
-sent-so r (Comes i ∷ es) f s d e = sent-so r es f s d e
-sent-so r (Lost i ∷ es) f s d e = sent-so r es f s d e
-sent-so r (Link a b c ∷ es) f s d e = sent-so r es f s d e
-sent-so r (Announced t ∷ es) f s d e = sent-so r es f s d e
-sent-so r (Takes b n ∷ es) f s d e = sent-so r es f s d e
-sent-so r (Moves a b ∷ es) f s d e = sent-so r es f s d e
-sent-so r (Forgets b n a ∷ es) f s d e = sent-so r es f s d e
-sent-so r (Falls b ∷ es) f s d e = sent-so r es f s d e
+sent_so r [] f s d e = e
+sent_so r (Sends a c ∷ es) f s d e = grind (arith, nat_tests, sent_so r es f s d, ap (λ (w : World). w.next) (same r es))
+sent_so r (Comes i ∷ es) f s d e = sent_so r es f s d e
+sent_so r (Lost i ∷ es) f s d e = sent_so r es f s d e
+sent_so r (Link a b c ∷ es) f s d e = sent_so r es f s d e
+sent_so r (Announced t ∷ es) f s d e = sent_so r es f s d e
+sent_so r (Takes b n ∷ es) f s d e = sent_so r es f s d e
+sent_so r (Moves a b ∷ es) f s d e = sent_so r es f s d e
+sent_so r (Forgets b n a ∷ es) f s d e = sent_so r es f s d e
+sent_so r (Falls b ∷ es) f s d e = sent_so r es f s d e
 
 stays-so : (s : ℕ) (es : List Ev) → moved s es ≡ false → stays s (translated es) ≡ true
 unfolding translated moved stays
@@ -149,10 +149,10 @@ remembered-so n s (Moves a b ∷ fs) o = absurd o
 remembered-so n s (Forgets b m a ∷ fs) o = absurd o
 remembered-so n s (Falls b ∷ fs) o = absurd o
 
-count-within : (f s b : ℕ) (gs : List Got) → count_got f s b gs ≤ count_all f s gs
+count_within : (f s b : ℕ) (gs : List Got) → count_got f s b gs ≤ count_all f s gs
 unfolding count_got count_all
-count-within f s b [] = omega arith
-count-within f s b (g ∷ gs) = grind (arith, nat_tests, count-within f s b gs)
+count_within f s b [] = omega arith
+count_within f s b (g ∷ gs) = grind (arith, nat_tests, count_within f s b gs)
 
 -- announcing and adopting, back in Net
 back : List Event → List Ev
@@ -169,25 +169,25 @@ back (Crash b ∷ es) = []
 back (Turn b n s ok ∷ es) = []
 
 record Back (fs : List Event) : Type 0 where
-  there-so : translated (back fs) ≡ fs
-  trees-only : T (P.only_trees (back fs))
+  there_so : translated (back fs) ≡ fs
+  trees_only : T (P.only_trees (back fs))
   length-so : length (back fs) ≡ length fs
 
-back-so : (fs : List Event) → T (G.only_trees fs) → Back fs
+back_so : (fs : List Event) → T (G.only_trees fs) → Back fs
 unfolding back translated G.only_trees P.only_trees
-back-so [] o = record { there-so = refl; trees-only = tt; length-so = refl }
-back-so (Announce t ∷ fs) o = let b : Back fs = back-so fs o in
-    record { there-so = ap (λ (gs : List Event). Announce t ∷ gs) b.there-so; trees-only = b.trees-only; length-so = ap suc b.length-so }
-back-so (Adopt c n ∷ fs) o = let b : Back fs = back-so fs o in
-    record { there-so = ap (λ (gs : List Event). Adopt c n ∷ gs) b.there-so; trees-only = b.trees-only; length-so = ap suc b.length-so }
-back-so (Send s d ∷ fs) o = absurd o
-back-so (Arrive i ∷ fs) o = absurd o
-back-so (Lose i ∷ fs) o = absurd o
-back-so (Believe a b c ∷ fs) o = absurd o
-back-so (Move s b ∷ fs) o = absurd o
-back-so (Forget b n s ∷ fs) o = absurd o
-back-so (Crash b ∷ fs) o = absurd o
-back-so (Turn b n s ok ∷ fs) o = absurd o
+back_so [] o = record { there_so = refl; trees_only = tt; length-so = refl }
+back_so (Announce t ∷ fs) o = let b : Back fs = back_so fs o in
+    record { there_so = ap (λ (gs : List Event). Announce t ∷ gs) b.there_so; trees_only = b.trees_only; length-so = ap suc b.length-so }
+back_so (Adopt c n ∷ fs) o = let b : Back fs = back_so fs o in
+    record { there_so = ap (λ (gs : List Event). Adopt c n ∷ gs) b.there_so; trees_only = b.trees_only; length-so = ap suc b.length-so }
+back_so (Send s d ∷ fs) o = absurd o
+back_so (Arrive i ∷ fs) o = absurd o
+back_so (Lose i ∷ fs) o = absurd o
+back_so (Believe a b c ∷ fs) o = absurd o
+back_so (Move s b ∷ fs) o = absurd o
+back_so (Forget b n s ∷ fs) o = absurd o
+back_so (Crash b ∷ fs) o = absurd o
+back_so (Turn b n s ok ∷ fs) o = absurd o
 
 -- two runs of Net one after the other
 same_after : (r : Rules) (fs es : List Ev) → world r (fs ++ es) ≡ run true r (translated fs ++ translated es)
@@ -197,7 +197,7 @@ module _ (r : Rules) (es : List Ev) (g : Assured true r (translated es)) where
   right_colour : (x : Got) → Memᴰ x (world r es).got → (s : ℕ) × (d : ℕ) × (sent_in r es x.frame s d ≡ true) × (r.colour x.station ≡ r.colour s)
   right_colour x m =
       let z = g.right_vlan x (subst (λ (w : World). Memᴰ x w.got) (same r es) m) in
-      (z.0, z.1, sent-so r es x.frame z.0 z.1 z.2, z.3)
+      (z.0, z.1, sent_so r es x.frame z.0 z.1 z.2, z.3)
 
   learnt_right : (later before : List Ev) (t : Tree) → es ≡ later ++ (Announced t ∷ before) → tree_of t.number (world r before).trees ≡ NoTree → ((b : ℕ) → r.bridges ≤ b → t.above b ≡ b) →
       (s b : ℕ) → s < r.stations → b < r.bridges → moved s later ≡ false → NotWrong r (world r es) t b s ((world r es).learned b t.number s)
@@ -242,36 +242,36 @@ module _ (r : Rules) (es : List Ev) (g : Assured true r (translated es)) where
 
       nobody : (q b : ℕ) → count_all v.next q (run true r (translated fs ++ (Send s d ∷ translated es))).got ≡ 0 →
           count_got v.next q b (run true r (translated fs ++ (Send s d ∷ translated es))).got ≡ 0
-      nobody q b z = omega (arith, count-within v.next q b (run true r (translated fs ++ (Send s d ∷ translated es))).got)
+      nobody q b z = omega (arith, count_within v.next q b (run true r (translated fs ++ (Send s d ∷ translated es))).got)
 
-  linked-so : (w v : World) → w ≡ v → {b : ℕ} → Linked r w b → Linked r v b
-  linked-so w v e {b} l = subst (λ (x : World). Linked r x b) e l
+  linked_so : (w v : World) → w ≡ v → {b : ℕ} → Linked r w b → Linked r v b
+  linked_so w v e {b} l = subst (λ (x : World). Linked r x b) e l
 
-  rest-so : 0 < r.bridges → ((b : ℕ) → b < r.bridges → Linked r (world r es) b) →
+  rest_so : 0 < r.bridges → ((b : ℕ) → b < r.bridges → Linked r (world r es) b) →
       (fs : List Ev) × T (P.only_trees fs) × (length fs ≤ suc r.bridges) × (t : Tree) × (looks r.bridges t ≡ true) × Rests r (world r (fs ++ es)) t
-  rest-so some all = (
+  rest_so some all = (
     back z.0,
-    k.trees-only,
+    k.trees_only,
     (let h : length z.0 ≤ suc r.bridges = z.2 in omega (arith, k.length-so)),
     z.3,
     z.4,
-    subst (λ (w : World). Rests r w z.3) (sym (same_after r (back z.0) es ∙ ap (λ (fs : List Event). run true r (fs ++ translated es)) k.there-so)) z.5,
+    subst (λ (w : World). Rests r w z.3) (sym (same_after r (back z.0) es ∙ ap (λ (fs : List Event). run true r (fs ++ translated es)) k.there_so)) z.5,
   )
     where
       z : (fs : List Event) × T (G.only_trees fs) × (length fs ≤ suc r.bridges) × (t : Tree) × (looks r.bridges t ≡ true) × Rests r (run true r (fs ++ translated es)) t
-      z = g.can_rest some (λ b h. linked-so _ _ (same r es) (all b h))
+      z = g.can_rest some (λ b h. linked_so _ _ (same r es) (all b h))
 
       k : Back z.0
-      k = back-so z.0 z.1
+      k = back_so z.0 z.1
 
-pub main-from : Guaranteed → Main
-main-from g r es = record {
+pub main_from : Guaranteed → Main
+main_from g r es = record {
   no_round = λ x m. a.no_round x (subst (λ (w : World). Memᴰ x w.copies) (same r es) m);
   not_twice = λ f s b. subst (λ (w : World). count_got f s b w.got ≤ 1) (sym (same r es)) (a.not_twice f s b);
   right_colour = right_colour r es a;
   learnt_right = learnt_right r es a;
   arrives = arrives-so r es a;
-  can_rest = rest-so r es a;
+  can_rest = rest_so r es a;
 }
   where
     a : Assured true r (translated es)

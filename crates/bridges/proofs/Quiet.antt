@@ -8,7 +8,7 @@ use Rattle.trees.specs.Tree.{Tree, joined}
 use Rattle.bridges.specs.Net.{Copy, Where, Unknown, Got, Rules, World, came_by, knows, without, with_copies, send_by}
 use Rattle.bridges.specs.Fabric.{Event, Send, Arrive, Lose, Believe, Announce, Adopt, Move, Forget, Crash, Turn, goes_by, may_hand, handed, turned, happen}
 use Rattle.bridges.specs.Guarantee.{moves, forgets, quiet, is_copy_of}
-use Rattle.bridges.proofs.Changes.{at3-tells, Pick, now, later, pick-mem, arrive-by, announce-by, adopt-by, send_by_lem}
+use Rattle.bridges.proofs.Changes.{at3-tells, Pick, now, later, pick_mem, arrive_by, announce_by, adopt_by, send_by_lem}
 use Rattle.bridges.proofs.Keeps.{handed-mem}
 use Rattle.bridges.proofs.Counts.{one, one_same, count}
 
@@ -33,10 +33,10 @@ quiet-holds lax r t f d e w h = go e w h
 
     go : (e : Event) (w : World) → quiet t f d w e ≡ true → (happen lax r e w).holds ≡ w.holds
     go (Send a b) w h = send_by_lem lax r (P w.holds) a b w refl (λ _ _ _ _ _ _. refl)
-    go (Arrive i) w h = arrive-by lax r (P w.holds) i w.copies (with_copies (without i w.copies) w) (λ _. refl) (λ _ _ _. refl) (λ _ _ _ _ _. refl)
+    go (Arrive i) w h = arrive_by lax r (P w.holds) i w.copies (with_copies (without i w.copies) w) (λ _. refl) (λ _ _ _. refl) (λ _ _ _ _ _. refl)
     go (Lose i) w h = refl
     go (Believe a b c) w h = refl
-    go (Announce u) w h = announce-by lax r (P w.holds) u w refl (λ _. refl)
+    go (Announce u) w h = announce_by lax r (P w.holds) u w refl (λ _. refl)
     go (Adopt b n) w h = absurd (grind arith)
     go (Move a b) w h = cond_both (not lax || ltb b r.bridges) _ w (P w.holds) (λ _. refl) (λ _. refl)
     go (Forget b n a) w h = refl
@@ -59,17 +59,17 @@ quiet-open lax r t f d e w h k = go e w h k
 
     go : (e : Event) (w : World) → quiet t f d w e ≡ true → P w → P (happen lax r e w)
     go (Send a b) w h k = send_by_lem lax r P a b w k (λ _ _ _ _ _ _. k)
-    go (Arrive i) w h k = arrive-by lax r P i w.copies (with_copies (without i w.copies) w) (λ _. k) (λ _ _ _. k) (λ _ _ _ _ _. k)
+    go (Arrive i) w h k = arrive_by lax r P i w.copies (with_copies (without i w.copies) w) (λ _. k) (λ _ _ _. k) (λ _ _ _ _ _. k)
     go (Lose i) w h k = k
     go (Believe a b c) w h k = λ p q lp lq j. cond_both (eqb p a && eqb q b) c (w.up p q) (λ x. x ≡ true) (λ e. told p q j e) (λ _. k p q lp lq j)
       where
         told : (p q : ℕ) → joined t p q ≡ true → (eqb p a && eqb q b) ≡ true → c ≡ true
-        told p q j e = open-or c (joined t a b) h (subst (λ z. joined t z b ≡ true) (same p q a b e).0 (subst (λ z. joined t p z ≡ true) (same p q a b e).1 j))
+        told p q j e = open_or c (joined t a b) h (subst (λ z. joined t z b ≡ true) (same p q a b e).0 (subst (λ z. joined t p z ≡ true) (same p q a b e).1 j))
           where
-            open-or : (x y : Bool) → (x || not y) ≡ true → y ≡ true → x ≡ true
-            open-or x y = grind arith
-    go (Announce u) w h k = announce-by lax r P u w k (λ _. k)
-    go (Adopt b n) w h k = adopt-by lax r P b n w k (λ _ _ _. k)
+            open_or : (x y : Bool) → (x || not y) ≡ true → y ≡ true → x ≡ true
+            open_or x y = grind arith
+    go (Announce u) w h k = announce_by lax r P u w k (λ _. k)
+    go (Adopt b n) w h k = adopt_by lax r P b n w k (λ _ _ _. k)
     go (Move a b) w h k = cond_both (not lax || ltb b r.bridges) _ w P (λ _. k) (λ _. k)
     go (Forget b n a) w h k = k
     go (Crash b) w h k = k
@@ -92,12 +92,12 @@ quiet-known lax r t f d e w h g k = go e w h g k
 
     go : (e : Event) (w : World) → quiet t f d w e ≡ true → forgets t.number d e ≡ false → P w → P (happen lax r e w)
     go (Send a b) w h g k = send_by_lem lax r P a b w k (λ _ _ _ _ _ _. k)
-    go (Arrive i) w h g k = arrive-by lax r P i w.copies (with_copies (without i w.copies) w) (λ _. k) (λ _ _ _. k)
+    go (Arrive i) w h g k = arrive_by lax r P i w.copies (with_copies (without i w.copies) w) (λ _. k) (λ _ _ _. k)
         (λ x _ _ _ _ b lb q. elim (at3-tells x.at x.frame.tree x.frame.from (came_by x.trail) w.learned b t.number d) [ inl h ↦ came x.trail (sym h.3 ∙ q) | inr h ↦ k b lb (sym h ∙ q) ])
     go (Lose i) w h g k = k
     go (Believe a b c) w h g k = k
-    go (Announce u) w h g k = announce-by lax r P u w k (λ _. k)
-    go (Adopt b n) w h g k = adopt-by lax r P b n w k (λ _ _ _. k)
+    go (Announce u) w h g k = announce_by lax r P u w k (λ _. k)
+    go (Adopt b n) w h g k = adopt_by lax r P b n w k (λ _ _ _. k)
     go (Move a b) w h g k = cond_both (not lax || ltb b r.bridges) _ w P (λ _. k) (λ _. k)
     go (Forget b n a) w h g k = λ p lp. cond_both (eqb p b && (eqb t.number n && eqb d a)) _ _ (λ v. v ≡ Unknown → ⊥) (λ e _. other (eqb p b) t.number n d a e g) (λ _. k p lp)
       where
@@ -110,11 +110,11 @@ quiet-known lax r t f d e w h g k = go e w h g k
         other x y d a p q = grind (arith, nat_tests)
 
 -- what holds of all that was handed over
-pub given-step : (lax : Bool) (r : Rules) (Q : Got → Type 0) (e : Event) (w : World) →
+pub given_step : (lax : Bool) (r : Rules) (Q : Got → Type 0) (e : Event) (w : World) →
     ((x : Copy) (v : World) (s : ℕ) → Memᴰ x w.copies → v.home ≡ w.home → may_hand lax r v x (goes_by lax x (knows w x)) s ≡ true → Q (record { frame = x.frame.number; station = s; bridge = x.at })) →
     ((g : Got) → Memᴰ g w.got → Q g) → (g : Got) → Memᴰ g (happen lax r e w).got → Q g
 unfolding send_by
-given-step lax r Q e w h k = go e w h k
+given_step lax r Q e w h k = go e w h k
   where
     P : World → Type 0
     P v = (g : Got) → Memᴰ g v.got → Q g
@@ -123,15 +123,15 @@ given-step lax r Q e w h k = go e w h k
         ((x : Copy) (v : World) (s : ℕ) → Memᴰ x w.copies → v.home ≡ w.home → may_hand lax r v x (goes_by lax x (knows w x)) s ≡ true → Q (record { frame = x.frame.number; station = s; bridge = x.at })) →
         P w → P (happen lax r e w)
     go (Send a b) w h k = send_by_lem lax r P a b w k (λ _ _ _ _ _ _. k)
-    go (Arrive i) w h k = arrive-by lax r P i w.copies (with_copies (without i w.copies) w) (λ _. k) (λ _ _ _. k)
+    go (Arrive i) w h k = arrive_by lax r P i w.copies (with_copies (without i w.copies) w) (λ _. k) (λ _ _ _. k)
         (λ x _ p _ _ g m. elim (Memᴰ.append_cases (handed lax r (with_copies (without i w.copies) w) x (goes_by lax x (knows w x)) r.stations) m) [ inl m' ↦ new x p g (handed-mem lax r (with_copies (without i w.copies) w) x (goes_by lax x (knows w x)) r.stations g m') | inr m' ↦ k g m' ])
       where
         new : (x : Copy) → Pick x i w.copies → (g : Got) → (s : ℕ) × (g ≡ record { frame = x.frame.number; station = s; bridge = x.at }) × (may_hand lax r (with_copies (without i w.copies) w) x (goes_by lax x (knows w x)) s ≡ true) → Q g
-        new x p g q = subst Q (sym q.1) (h x (with_copies (without i w.copies) w) q.0 (pick-mem p) refl q.2)
+        new x p g q = subst Q (sym q.1) (h x (with_copies (without i w.copies) w) q.0 (pick_mem p) refl q.2)
     go (Lose i) w h k = k
     go (Believe a b c) w h k = k
-    go (Announce u) w h k = announce-by lax r P u w k (λ _. k)
-    go (Adopt b n) w h k = adopt-by lax r P b n w k (λ _ _ _. k)
+    go (Announce u) w h k = announce_by lax r P u w k (λ _. k)
+    go (Adopt b n) w h k = adopt_by lax r P b n w k (λ _ _ _. k)
     go (Move a b) w h k = cond_both (not lax || ltb b r.bridges) _ w P (λ _. k) (λ _. k)
     go (Forget b n a) w h k = k
     go (Crash b) w h k = k

@@ -32,21 +32,21 @@ unfolding count
 count_none zero = refl
 count_none (suc n) = grind (arith, count_none n)
 
-count-le : (p : ℕ → Bool) (n : ℕ) → count p n ≤ n
+count_le : (p : ℕ → Bool) (n : ℕ) → count p n ≤ n
 unfolding count
-count-le p zero = omega arith
-count-le p (suc n) = grind (arith, nat_tests, count-le p n)
+count_le p zero = omega arith
+count_le p (suc n) = grind (arith, nat_tests, count_le p n)
 
-count-full : (p : ℕ → Bool) (n : ℕ) → count p n ≡ n → (k : ℕ) → k < n → p k ≡ true
+count_full : (p : ℕ → Bool) (n : ℕ) → count p n ≡ n → (k : ℕ) → k < n → p k ≡ true
 unfolding count
-count-full p zero e k h = absurd (omega arith)
-count-full p (suc n) e k h = elim (ℕ_discrete k n) [ yes q ↦ here q | no q ↦ count-full p n (rest) k (omega arith) ]
+count_full p zero e k h = absurd (omega arith)
+count_full p (suc n) e k h = elim (ℕ_discrete k n) [ yes q ↦ here q | no q ↦ count_full p n (rest) k (omega arith) ]
   where
     rest : count p n ≡ n
-    rest = grind (arith, nat_tests, count-le p n)
+    rest = grind (arith, nat_tests, count_le p n)
 
     last : p n ≡ true
-    last = grind (arith, nat_tests, count-le p n)
+    last = grind (arith, nat_tests, count_le p n)
 
     here : k ≡ n → p k ≡ true
     here q = ap p q ∙ last
@@ -56,12 +56,12 @@ unfolding count
 count_same p b zero h = refl
 count_same p b (suc n) h = grind (arith, nat_tests, count_same p b n (omega arith))
 
-count-more : (p : ℕ → Bool) (b n : ℕ) → b < n → p b ≡ false → count (at b true p) n ≡ suc (count p n)
+count_more : (p : ℕ → Bool) (b n : ℕ) → b < n → p b ≡ false → count (at b true p) n ≡ suc (count p n)
 unfolding count
-count-more p b zero h e = absurd (omega arith)
-count-more p b (suc n) h e = elim (ℕ_discrete b n) [
+count_more p b zero h e = absurd (omega arith)
+count_more p b (suc n) h e = elim (ℕ_discrete b n) [
   | yes q ↦ let f : p n ≡ false = sym (ap p q) ∙ e in grind (arith, nat_tests, count_same p b n (omega arith))
-  | no q ↦ let ne : eqb n b ≡ false = grind (arith, nat_tests) in grind (arith, nat_tests, count-more p b n (omega arith) e)
+  | no q ↦ let ne : eqb n b ≡ false = grind (arith, nat_tests) in grind (arith, nat_tests, count_more p b n (omega arith) e)
 ]
 
 missing : (p : ℕ → Bool) (n : ℕ) → count p n < n → (c : ℕ) × (c < n) × (p c ≡ false)
@@ -79,7 +79,7 @@ record Part (n : ℕ) (up : ℕ → ℕ → Bool) (k : ℕ) : Type 0 where
   above : ℕ → ℕ
   far : ℕ → ℕ
   size : count inn n ≡ suc k
-  zeroth-in : inn 0 ≡ true
+  zeroth_in : inn 0 ≡ true
   rooted : above 0 ≡ 0
   outside : (b : ℕ) → inn b ≡ false → above b ≡ b
   below : (b : ℕ) → inn b ≡ true → (b < n) × (far b ≤ k)
@@ -90,15 +90,15 @@ record Crossing (n : ℕ) (up : ℕ → ℕ → Bool) (p : ℕ → Bool) : Type 
   a : ℕ
   b : ℕ
   a_in : p a ≡ true
-  b-out : p b ≡ false
-  b-below : b < n
+  b_out : p b ≡ false
+  b_below : b < n
   there : up a b ≡ true
   back : up b a ≡ true
 
 crossing : (n : ℕ) (up : ℕ → ℕ → Bool) (p : ℕ → Bool) → p 0 ≡ true → {c : ℕ} → Reached n up c → p c ≡ false → Crossing n up p
 crossing n up p z zeroth e = absurd (both_ways _ e z)
 crossing n up p z (over {a} {b} l h u v) e = elim (cases_Bool (p a)) [
-  | inl y ↦ record { a = a; b = b; a_in = y; b-out = e; b-below = h; there = u; back = v }
+  | inl y ↦ record { a = a; b = b; a_in = y; b_out = e; b_below = h; there = u; back = v }
   | inr f ↦ crossing n up p z l f
 ]
 
@@ -108,8 +108,8 @@ module _ (n : ℕ) (up : ℕ → ℕ → Bool) where
     inn = at 0 true (λ _. false);
     above = λ b. b;
     far = λ b. 0;
-    size = count-more (λ _. false) 0 n h refl ∙ ap suc (count_none n);
-    zeroth-in = refl;
+    size = count_more (λ _. false) 0 n h refl ∙ ap suc (count_none n);
+    zeroth_in = refl;
     rooted = refl;
     outside = λ b e. refl;
     below = λ b e. grind (arith, nat_tests);
@@ -121,16 +121,16 @@ module _ (n : ℕ) (up : ℕ → ℕ → Bool) where
     inn = at x.b true p.inn;
     above = at x.b x.a p.above;
     far = at x.b (suc k) p.far;
-    size = count-more p.inn x.b n x.b-below x.b-out ∙ ap suc p.size;
-    zeroth-in = grind (arith, nat_tests, p.zeroth-in);
-    rooted = grind (arith, nat_tests, p.zeroth-in, p.rooted);
+    size = count_more p.inn x.b n x.b_below x.b_out ∙ ap suc p.size;
+    zeroth_in = grind (arith, nat_tests, p.zeroth_in);
+    rooted = grind (arith, nat_tests, p.zeroth_in, p.rooted);
     outside = λ c e. grind (arith, nat_tests, p.outside c);
     below = λ c e. grind (arith, nat_tests, p.below c);
     joins = λ c e. grind (arith, nat_tests, p.joins c, p.below c, p.below (p.above c), p.below x.a);
   }
 
   next : (k : ℕ) → suc k < n → ((b : ℕ) → b < n → Reached n up b) → Part n up k → Part n up (suc k)
-  next k h all p = more k p (crossing n up p.inn p.zeroth-in (all m.0 m.1) m.2)
+  next k h all p = more k p (crossing n up p.inn p.zeroth_in (all m.0 m.1) m.2)
     where
       m : (c : ℕ) × (c < n) × (p.inn c ≡ false)
       m = missing p.inn n (omega (arith, p.size))
@@ -155,7 +155,7 @@ spanning (suc m) up some all = record {
     p = grow (suc m) up all m (omega arith)
 
     full : (b : ℕ) → b < suc m → p.inn b ≡ true
-    full b h = count-full p.inn (suc m) p.size b h
+    full b h = count_full p.inn (suc m) p.size b h
 
 abbrev pub tree_by : {n : ℕ} {up : ℕ → ℕ → Bool} → ℕ → Spanning n up → Tree
 tree_by number s = record { number = number; above = s.above; far = s.far }
@@ -166,14 +166,14 @@ module _ (n : ℕ) (up : ℕ → ℕ → Bool) (s : Spanning n up) (number : ℕ
   looks-upto zero h = refl
   looks-upto (suc k) h = grind (arith, nat_tests, looks-upto k (omega arith), s.joins k, s.rooted)
 
-  pub spanning-looks : looks n (tree_by number s) ≡ true
-  spanning-looks = looks-upto n (omega arith)
+  pub spanning_looks : looks n (tree_by number s) ≡ true
+  spanning_looks = looks-upto n (omega arith)
 
-  pub spanning-links : (b c : ℕ) → b < n → c < n → joined (tree_by number s) b c ≡ true → up b c ≡ true
-  spanning-links b c h k j = grind (arith, nat_tests, s.joins b, s.joins c, s.rooted)
+  pub spanning_links : (b c : ℕ) → b < n → c < n → joined (tree_by number s) b c ≡ true → up b c ≡ true
+  spanning_links b c h k j = grind (arith, nat_tests, s.joins b, s.joins c, s.rooted)
 
-  pub spanning-inside : (b : ℕ) → (b < n → s.above b < n) × (n ≤ b → s.above b ≡ b)
-  spanning-inside b = (λ h. grind (arith, s.joins b, s.rooted), s.outside b)
+  pub spanning_inside : (b : ℕ) → (b < n → s.above b < n) × (n ≤ b → s.above b ≡ b)
+  spanning_inside b = (λ h. grind (arith, s.joins b, s.rooted), s.outside b)
 
   -- whoever is at most k far meets bridge 0 within k steps up
   climbs : (k b : ℕ) → b < n → s.far b ≤ k → is_in 0 (top_way k (tree_by number s) b) ≡ true
@@ -181,5 +181,5 @@ module _ (n : ℕ) (up : ℕ → ℕ → Bool) (s : Spanning n up) (number : ℕ
   climbs zero b h f = grind (arith, nat_tests, s.joins b)
   climbs (suc k) b h f = grind (arith, nat_tests, s.joins b, s.rooted, climbs k (s.above b))
 
-  pub spanning-together : (b : ℕ) → b < n → is_in 0 (top_way n (tree_by number s) b) ≡ true
-  spanning-together b h = climbs n b h (s.near b h)
+  pub spanning_together : (b : ℕ) → b < n → is_in 0 (top_way n (tree_by number s) b) ≡ true
+  spanning_together b h = climbs n b h (s.near b h)

@@ -55,23 +55,23 @@ module _ (n : ℕ) (t : Tree) (l : looks n t ≡ true) where
 
   rank_below : (x : ℕ) → x < n → rank x < n
   unfolding rank
-  rank_below x lx = all-below (below-fewer n (λ y. ltb (t.far y) (t.far x)) (λ y. true) (λ c h. refl) x lx (not-self (t.far x)) refl) (below-most n (λ y. true))
+  rank_below x lx = all_below_lem (below-fewer n (λ y. ltb (t.far y) (t.far x)) (λ y. true) (λ c h. refl) x lx (not-self (t.far x)) refl) (below-most n (λ y. true))
     where
-      all-below : {a b c : ℕ} → a < b → b ≤ c → a < c
-      all-below p q = omega arith
+      all_below_lem : {a b c : ℕ} → a < b → b ≤ c → a < c
+      all_below_lem p q = omega arith
 
       not-self : (a : ℕ) → ltb a a ≡ false
       not-self a = grind (arith, nat_tests)
 
-  pub top-alone : {c : ℕ} (x : ℕ) → t.above x ≡ x → Under n t c x → x ≡ c
-  top-alone x e (self q) = q
-  top-alone x e (more lt u) = sym e ∙ top-alone (t.above x) (ap t.above e) u
+  pub top_alone : {c : ℕ} (x : ℕ) → t.above x ≡ x → Under n t c x → x ≡ c
+  top_alone x e (self q) = q
+  top_alone x e (more lt u) = sym e ∙ top_alone (t.above x) (ap t.above e) u
 
   module _ (out : (b : ℕ) → n ≤ b → t.above b ≡ b) where
-    way-under : (k c x : ℕ) → is_in c (top_way k t x) ≡ true → Under n t c x
+    way_under : (k c x : ℕ) → is_in c (top_way k t x) ≡ true → Under n t c x
     unfolding top_way is_in
-    way-under zero c x h = self (grind (arith, nat_tests))
-    way-under (suc k) c x h = elim (ℕ_discrete x c) [ yes e ↦ self e | no ne ↦ go (eqb (t.above x) x) refl h ne (λ g. way-under k c (t.above x) g) ]
+    way_under zero c x h = self (grind (arith, nat_tests))
+    way_under (suc k) c x h = elim (ℕ_discrete x c) [ yes e ↦ self e | no ne ↦ go (eqb (t.above x) x) refl h ne (λ g. way_under k c (t.above x) g) ]
       where
         inside : (t.above x ≡ x → ⊥) → x < n
         inside k = elim (dec_lt x n) [ yes lt ↦ lt | no nl ↦ absurd (k (out x (omega arith))) ]
@@ -84,16 +84,16 @@ module _ (n : ℕ) (t : Tree) (l : looks n t ≡ true) where
     unfolding top_way is_in
     under_way zero c x h (self e) = grind (arith, nat_tests)
     under_way zero c x h (more lt u) = absurd (let z = h lt in omega arith)
-    under_way (suc k) c x h (self e) = cond_both (eqb (t.above x) x) (x ∷ []) (x ∷ top_way k t (t.above x)) (λ ys. is_in c ys ≡ true) (λ _. first-is (eqb x c) false (eq-eqb _ _ e)) (λ _. first-is (eqb x c) (is_in c (top_way k t (t.above x))) (eq-eqb _ _ e))
+    under_way (suc k) c x h (self e) = cond_both (eqb (t.above x) x) (x ∷ []) (x ∷ top_way k t (t.above x)) (λ ys. is_in c ys ≡ true) (λ _. first_is (eqb x c) false (eq-eqb _ _ e)) (λ _. first_is (eqb x c) (is_in c (top_way k t (t.above x))) (eq-eqb _ _ e))
       where
-        first-is : (a b : Bool) → a ≡ true → (a || b) ≡ true
-        first-is a b h = grind arith
+        first_is : (a b : Bool) → a ≡ true → (a || b) ≡ true
+        first_is a b h = grind arith
     under_way (suc k) c x h (more lt u) = cond_both (eqb (t.above x) x) (x ∷ []) (x ∷ top_way k t (t.above x)) (λ ys. is_in c ys ≡ true)
-        (λ e. first-is (eqb x c) false (eq-eqb _ _ (let q = eqb-true (t.above x) x e in sym q ∙ top-alone (t.above x) (ap t.above q) u)))
+        (λ e. first_is (eqb x c) false (eq-eqb _ _ (let q = eqb-true (t.above x) x e in sym q ∙ top_alone (t.above x) (ap t.above q) u)))
         (λ e. second_is (eqb x c) _ (under_way k c (t.above x) (λ la. lower la (eqb-false _ _ e) (h lt)) u))
       where
-        first-is : (a b : Bool) → a ≡ true → (a || b) ≡ true
-        first-is a b h = grind arith
+        first_is : (a b : Bool) → a ≡ true → (a || b) ≡ true
+        first_is a b h = grind arith
 
         second_is : (a b : Bool) → b ≡ true → (a || b) ≡ true
         second_is a b h = grind arith
@@ -105,15 +105,15 @@ module _ (n : ℕ) (t : Tree) (l : looks n t ≡ true) where
             less p q = omega arith
 
     -- the way up as a list has those who stand at or above
-    pub way-is-below : (c x : ℕ) → is_in c (top_way n t x) ≡ below n t c x
-    way-is-below c x = same _ _ (λ h. is_below n t l c x (way-under n c x h)) (λ h. under_way n c x (rank_below x) (below-is n t l c x h))
+    pub way_is_below : (c x : ℕ) → is_in c (top_way n t x) ≡ below n t c x
+    way_is_below c x = same _ _ (λ h. is_below n t l c x (way_under n c x h)) (λ h. under_way n c x (rank_below x) (below-is n t l c x h))
       where
         same : (a b : Bool) → (a ≡ true → b ≡ true) → (b ≡ true → a ≡ true) → a ≡ b
         same a b p q = grind arith
 
-    pub way-to-under : (c x : ℕ) → is_in c (top_way n t x) ≡ true → Under n t c x
-    way-to-under c x h = way-under n c x h
+    pub way_to_under : (c x : ℕ) → is_in c (top_way n t x) ≡ true → Under n t c x
+    way_to_under c x h = way_under n c x h
 
     -- c stands on the way from b to h if h is ahead of whoever goes from b to c
-    pub on-way-is : (b h c : ℕ) → on_way n t b h c ≡ (joined t b c && leads n t b c h)
-    on-way-is b h c = λ i. joined t b c && cond (eqb (t.above c) b) (way-is-below c h i) (not (way-is-below b h i))
+    pub on_way_is : (b h c : ℕ) → on_way n t b h c ≡ (joined t b c && leads n t b c h)
+    on_way_is b h c = λ i. joined t b c && cond (eqb (t.above c) b) (way_is_below c h i) (not (way_is_below b h i))

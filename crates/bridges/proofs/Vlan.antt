@@ -8,7 +8,7 @@ use Rattle.trees.specs.Tree.{Tree}
 use Rattle.bridges.specs.Net.{Frame, Copy, Where, Unknown, Here, Behind, Got, Rules, World, toward, knows, without, with_copies, send_by}
 use Rattle.bridges.specs.Fabric.{Event, Send, Arrive, Lose, Believe, Announce, Adopt, Move, Forget, Crash, Turn, goes_by, may_hand, handed, forward, happen, run}
 use Rattle.bridges.specs.Guarantee.{some, makes, sent_by}
-use Rattle.bridges.proofs.Changes.{pick-mem, without-mem, arrive-by, announce-by, adopt-by, send_by_lem}
+use Rattle.bridges.proofs.Changes.{pick_mem, without-mem, arrive_by, announce_by, adopt_by, send_by_lem}
 use Rattle.bridges.proofs.Keeps.{Onward, toward-mem, handed-mem}
 
 abbrev new_frame : Rules → World → ℕ → ℕ → ℕ → Frame
@@ -24,11 +24,11 @@ module _ (P : Frame → Type 0) (Q : Got → Type 0) where
   Carried w = CarriedOf w.copies w.got
 
   module _ (lax : Bool) (r : Rules) (give : (w : World) (x : Copy) (k : Where) (s : ℕ) → P x.frame → may_hand lax r w x k s ≡ true → Q (record { frame = x.frame.number; station = s; bridge = x.at })) where
-    carried-less : (i : ℕ) (w : World) → Carried w → Carried (with_copies (without i w.copies) w)
-    carried-less i w c = record { frames = λ x m. c.frames x (without-mem i w.copies m); given = c.given }
+    carried_less : (i : ℕ) (w : World) → Carried w → Carried (with_copies (without i w.copies) w)
+    carried_less i w c = record { frames = λ x m. c.frames x (without-mem i w.copies m); given = c.given }
 
-    carried-forward : (x : Copy) (t : Tree) (w : World) → P x.frame → Carried w → Carried (forward lax r x t w)
-    carried-forward x t w p c = record {
+    carried_forward : (x : Copy) (t : Tree) (w : World) → P x.frame → Carried w → Carried (forward lax r x t w)
+    carried_forward x t w p c = record {
       frames = λ y m. elim (Memᴰ.append_cases (toward t w.up x known r.bridges) m) [ inl m' ↦ same y (toward-mem t w.up x known r.bridges y m') | inr m' ↦ c.frames y m' ];
       given = λ g m. elim (Memᴰ.append_cases (handed lax r w x known r.stations) m) [ inl m' ↦ new g (handed-mem lax r w x known r.stations g m') | inr m' ↦ c.given g m' ];
     }
@@ -50,12 +50,12 @@ module _ (P : Frame → Type 0) (Q : Got → Type 0) where
       frames = λ x m. elim (Memᴰ.cases_cons m) [ inl q ↦ subst (λ z. P z.frame) (sym q) (new s d n ns refl h l ls ld) | inr m' ↦ c.frames x m' ];
       given = c.given;
     })
-    carried_step (Arrive i) w new c = let less = carried-less i w c in arrive-by lax r Carried i w.copies (with_copies (without i w.copies) w) (λ _. less) (λ _ _ _. less)
-        (λ x t p _ _. carried-forward x t (with_copies (without i w.copies) w) (c.frames x (pick-mem p)) less)
-    carried_step (Lose i) w new c = carried-less i w c
+    carried_step (Arrive i) w new c = let less = carried_less i w c in arrive_by lax r Carried i w.copies (with_copies (without i w.copies) w) (λ _. less) (λ _ _ _. less)
+        (λ x t p _ _. carried_forward x t (with_copies (without i w.copies) w) (c.frames x (pick_mem p)) less)
+    carried_step (Lose i) w new c = carried_less i w c
     carried_step (Believe a b k) w new c = c
-    carried_step (Announce t) w new c = announce-by lax r Carried t w c (λ _. c)
-    carried_step (Adopt b n) w new c = adopt-by lax r Carried b n w c (λ _ _ _. c)
+    carried_step (Announce t) w new c = announce_by lax r Carried t w c (λ _. c)
+    carried_step (Adopt b n) w new c = adopt_by lax r Carried b n w c (λ _ _ _. c)
     carried_step (Move s b) w new c = cond_both (not lax || ltb b r.bridges) _ w Carried (λ _. c) (λ _. c)
     carried_step (Forget b n s) w new c = c
     carried_step (Crash b) w new c = c
@@ -68,41 +68,41 @@ Named lax r es f = (sent_by lax r es f.number f.from f.to ≡ true) × (f.colour
 abbrev Rightly : Bool → Rules → List Event → Got → Type 0
 Rightly lax r es g = (s : ℕ) × (d : ℕ) × (sent_by lax r es g.frame s d ≡ true) × (r.colour g.station ≡ r.colour s) × (lax ≡ false → g.station ≡ s → ⊥)
 
-sent-stays : (lax : Bool) (r : Rules) (e : Event) (es : List Event) (f s d : ℕ) → sent_by lax r es f s d ≡ true → sent_by lax r (e ∷ es) f s d ≡ true
+sent_stays : (lax : Bool) (r : Rules) (e : Event) (es : List Event) (f s d : ℕ) → sent_by lax r es f s d ≡ true → sent_by lax r (e ∷ es) f s d ≡ true
 unfolding sent_by
-sent-stays lax r (Send a b) es f s d h = or_right _ _ h
-sent-stays lax r (Arrive i) es f s d h = h
-sent-stays lax r (Lose i) es f s d h = h
-sent-stays lax r (Believe a b c) es f s d h = h
-sent-stays lax r (Announce t) es f s d h = h
-sent-stays lax r (Adopt b n) es f s d h = h
-sent-stays lax r (Move a b) es f s d h = h
-sent-stays lax r (Forget b n a) es f s d h = h
-sent-stays lax r (Crash b) es f s d h = h
-sent-stays lax r (Turn b n a ok) es f s d h = h
+sent_stays lax r (Send a b) es f s d h = or_right _ _ h
+sent_stays lax r (Arrive i) es f s d h = h
+sent_stays lax r (Lose i) es f s d h = h
+sent_stays lax r (Believe a b c) es f s d h = h
+sent_stays lax r (Announce t) es f s d h = h
+sent_stays lax r (Adopt b n) es f s d h = h
+sent_stays lax r (Move a b) es f s d h = h
+sent_stays lax r (Forget b n a) es f s d h = h
+sent_stays lax r (Crash b) es f s d h = h
+sent_stays lax r (Turn b n a ok) es f s d h = h
 
 -- what a station may be handed
-may-colour : (lax : Bool) (r : Rules) (w : World) (x : Copy) (k : Where) (s : ℕ) → may_hand lax r w x k s ≡ true → r.colour s ≡ x.frame.colour
-may-colour lax r w x Unknown s h = grind (arith, nat_tests)
-may-colour lax r w x Here s h = grind (arith, nat_tests)
-may-colour lax r w x (Behind c) s h = grind (arith, nat_tests)
+may_colour : (lax : Bool) (r : Rules) (w : World) (x : Copy) (k : Where) (s : ℕ) → may_hand lax r w x k s ≡ true → r.colour s ≡ x.frame.colour
+may_colour lax r w x Unknown s h = grind (arith, nat_tests)
+may_colour lax r w x Here s h = grind (arith, nat_tests)
+may_colour lax r w x (Behind c) s h = grind (arith, nat_tests)
 
-may-other : (lax : Bool) (r : Rules) (w : World) (x : Copy) (k : Where) (s : ℕ) → may_hand lax r w x k s ≡ true → lax ≡ false → s ≡ x.frame.from → ⊥
-may-other lax r w x Unknown s h l e = grind (arith, nat_tests)
-may-other lax r w x Here s h l e = grind (arith, nat_tests)
-may-other lax r w x (Behind c) s h l e = grind (arith, nat_tests)
+may_other : (lax : Bool) (r : Rules) (w : World) (x : Copy) (k : Where) (s : ℕ) → may_hand lax r w x k s ≡ true → lax ≡ false → s ≡ x.frame.from → ⊥
+may_other lax r w x Unknown s h l e = grind (arith, nat_tests)
+may_other lax r w x Here s h l e = grind (arith, nat_tests)
+may_other lax r w x (Behind c) s h l e = grind (arith, nat_tests)
 
 module _ (lax : Bool) (r : Rules) where
   rightly : (es : List Event) (w : World) (x : Copy) (k : Where) (s : ℕ) → Named lax r es x.frame → may_hand lax r w x k s ≡ true → Rightly lax r es (record { frame = x.frame.number; station = s; bridge = x.at })
-  rightly es w x k s p h = (x.frame.from, x.frame.to, p.0, may-colour lax r w x k s h ∙ p.1, may-other lax r w x k s h)
+  rightly es w x k s p h = (x.frame.from, x.frame.to, p.0, may_colour lax r w x k s h ∙ p.1, may_other lax r w x k s h)
 
   all_named : (es : List Event) → Carried (Named lax r es) (Rightly lax r es) (run lax r es)
   unfolding run sent_by
   all_named [] = record { frames = λ x m. absurd (Memᴰ.not-nil m); given = λ g m. absurd (Memᴰ.not-nil m) }
   all_named (e ∷ es) = carried_step (Named lax r (e ∷ es)) (Rightly lax r (e ∷ es)) lax r (rightly (e ∷ es)) e (run lax r es) new
       (let c = all_named es in record {
-        frames = λ x m. let p = c.frames x m in (sent-stays lax r e es x.frame.number x.frame.from x.frame.to p.0, p.1);
-        given = λ g m. let q = c.given g m in (q.0, q.1, sent-stays lax r e es g.frame q.0 q.1 q.2, q.3, q.4);
+        frames = λ x m. let p = c.frames x m in (sent_stays lax r e es x.frame.number x.frame.from x.frame.to p.0, p.1);
+        given = λ g m. let q = c.given g m in (q.0, q.1, sent_stays lax r e es g.frame q.0 q.1 q.2, q.3, q.4);
       })
     where
       w : World
@@ -134,11 +134,11 @@ next_grows lax r e w = go e w
 
     go : (e : Event) (w : World) → w.next ≤ (happen lax r e w).next
     go (Send s d) w = send_by_lem lax r (P w.next) s d w (same w.next) (λ n ns _ _ _ _. one_up w.next)
-    go (Arrive i) w = arrive-by lax r (P w.next) i w.copies (with_copies (without i w.copies) w) (λ _. same w.next) (λ _ _ _. same w.next) (λ _ _ _ _ _. same w.next)
+    go (Arrive i) w = arrive_by lax r (P w.next) i w.copies (with_copies (without i w.copies) w) (λ _. same w.next) (λ _ _ _. same w.next) (λ _ _ _ _ _. same w.next)
     go (Lose i) w = same w.next
     go (Believe a b c) w = same w.next
-    go (Announce t) w = announce-by lax r (P w.next) t w (same w.next) (λ _. same w.next)
-    go (Adopt b n) w = adopt-by lax r (P w.next) b n w (same w.next) (λ _ _ _. same w.next)
+    go (Announce t) w = announce_by lax r (P w.next) t w (same w.next) (λ _. same w.next)
+    go (Adopt b n) w = adopt_by lax r (P w.next) b n w (same w.next) (λ _ _ _. same w.next)
     go (Move s b) w = cond_both (not lax || ltb b r.bridges) _ w (P w.next) (λ _. same w.next) (λ _. same w.next)
     go (Forget b n s) w = same w.next
     go (Crash b) w = same w.next
@@ -154,41 +154,41 @@ makes-next lax r w s d h = go ((lax || ltb (w.home s) r.bridges) && (ltb s r.sta
     go true (n ∷ ns) h = refl
     go false hs h = absurd (grind arith)
 
-either-sent : (m p q x : Bool) → ((m && (p && q)) || x) ≡ true → ((m ≡ true) × (p ≡ true) × (q ≡ true)) ⊎ (x ≡ true)
-either-sent m p q x h = grind arith
+either_sent : (m p q x : Bool) → ((m && (p && q)) || x) ≡ true → ((m ≡ true) × (p ≡ true) × (q ≡ true)) ⊎ (x ≡ true)
+either_sent m p q x h = grind arith
 
 module _ (lax : Bool) (r : Rules) where
   -- a frame that was sent has an older number than the next
-  pub sent-before : (es : List Event) (f s d : ℕ) → sent_by lax r es f s d ≡ true → f < (run lax r es).next
+  pub sent_before : (es : List Event) (f s d : ℕ) → sent_by lax r es f s d ≡ true → f < (run lax r es).next
   unfolding run sent_by
-  sent-before [] f s d h = absurd (grind arith)
-  sent-before (Send a b ∷ es) f s d h =
+  sent_before [] f s d h = absurd (grind arith)
+  sent_before (Send a b ∷ es) f s d h =
       let w = run lax r es in
-      elim (either-sent (makes lax r w a b) (eqb w.next f) (eqb a s && eqb b d) (sent_by lax r es f s d) h) [
+      elim (either_sent (makes lax r w a b) (eqb w.next f) (eqb a s && eqb b d) (sent_by lax r es f s d) h) [
         | inl q ↦ let n = makes-next lax r w a b q.0 in let e = eqb-true w.next f q.1 in grind (arith, n, e)
-        | inr q ↦ let n = next_grows lax r (Send a b) w in let i = sent-before es f s d q in grind (arith, n, i)
+        | inr q ↦ let n = next_grows lax r (Send a b) w in let i = sent_before es f s d q in grind (arith, n, i)
       ]
-  sent-before (Arrive i ∷ es) f s d h = let n = next_grows lax r (Arrive i) (run lax r es) in let j = sent-before es f s d h in grind (arith, n, j)
-  sent-before (Lose i ∷ es) f s d h = sent-before es f s d h
-  sent-before (Believe a b c ∷ es) f s d h = sent-before es f s d h
-  sent-before (Announce t ∷ es) f s d h = let n = next_grows lax r (Announce t) (run lax r es) in let j = sent-before es f s d h in grind (arith, n, j)
-  sent-before (Adopt b m ∷ es) f s d h = let n = next_grows lax r (Adopt b m) (run lax r es) in let j = sent-before es f s d h in grind (arith, n, j)
-  sent-before (Move a b ∷ es) f s d h = let n = next_grows lax r (Move a b) (run lax r es) in let j = sent-before es f s d h in grind (arith, n, j)
-  sent-before (Forget b m a ∷ es) f s d h = sent-before es f s d h
-  sent-before (Crash b ∷ es) f s d h = sent-before es f s d h
-  sent-before (Turn b m a ok ∷ es) f s d h = sent-before es f s d h
+  sent_before (Arrive i ∷ es) f s d h = let n = next_grows lax r (Arrive i) (run lax r es) in let j = sent_before es f s d h in grind (arith, n, j)
+  sent_before (Lose i ∷ es) f s d h = sent_before es f s d h
+  sent_before (Believe a b c ∷ es) f s d h = sent_before es f s d h
+  sent_before (Announce t ∷ es) f s d h = let n = next_grows lax r (Announce t) (run lax r es) in let j = sent_before es f s d h in grind (arith, n, j)
+  sent_before (Adopt b m ∷ es) f s d h = let n = next_grows lax r (Adopt b m) (run lax r es) in let j = sent_before es f s d h in grind (arith, n, j)
+  sent_before (Move a b ∷ es) f s d h = let n = next_grows lax r (Move a b) (run lax r es) in let j = sent_before es f s d h in grind (arith, n, j)
+  sent_before (Forget b m a ∷ es) f s d h = sent_before es f s d h
+  sent_before (Crash b ∷ es) f s d h = sent_before es f s d h
+  sent_before (Turn b m a ok ∷ es) f s d h = sent_before es f s d h
 
   pub one_sender : (es : List Event) (f s d s' d' : ℕ) → sent_by lax r es f s d ≡ true → sent_by lax r es f s' d' ≡ true → (s ≡ s') × (d ≡ d')
   unfolding sent_by
   one_sender [] f s d s' d' h k = absurd (grind arith)
   one_sender (Send a b ∷ es) f s d s' d' h k =
-      elim (either-sent (makes lax r (run lax r es) a b) (eqb (run lax r es).next f) (eqb a s && eqb b d) (sent_by lax r es f s d) h) [
-        | inl p ↦ elim (either-sent (makes lax r (run lax r es) a b) (eqb (run lax r es).next f) (eqb a s' && eqb b d') (sent_by lax r es f s' d') k) [
+      elim (either_sent (makes lax r (run lax r es) a b) (eqb (run lax r es).next f) (eqb a s && eqb b d) (sent_by lax r es f s d) h) [
+        | inl p ↦ elim (either_sent (makes lax r (run lax r es) a b) (eqb (run lax r es).next f) (eqb a s' && eqb b d') (sent_by lax r es f s' d') k) [
           | inl q ↦ both a b s d s' d' p.2 q.2
-          | inr q ↦ absurd (clash f (run lax r es).next p.1 (sent-before es f s' d' q))
+          | inr q ↦ absurd (clash f (run lax r es).next p.1 (sent_before es f s' d' q))
         ]
-        | inr p ↦ elim (either-sent (makes lax r (run lax r es) a b) (eqb (run lax r es).next f) (eqb a s' && eqb b d') (sent_by lax r es f s' d') k) [
-          | inl q ↦ absurd (clash f (run lax r es).next q.1 (sent-before es f s d p))
+        | inr p ↦ elim (either_sent (makes lax r (run lax r es) a b) (eqb (run lax r es).next f) (eqb a s' && eqb b d') (sent_by lax r es f s' d') k) [
+          | inl q ↦ absurd (clash f (run lax r es).next q.1 (sent_before es f s d p))
           | inr q ↦ one_sender es f s d s' d' p q
         ]
       ]

@@ -7,13 +7,13 @@ use Rattle.crc.specs.Crc.{after, through}
 use Rattle.crc.proofs.Linear.{after-eight, through-append, through-joined, joined}
 
 -- the shifts of a number's eight bytes, from the list of them
-pub shifted-eight : (w : ℕ) (bs : List ℕ) → w < 2 ^ 64
+pub shifted_eight : (w : ℕ) (bs : List ℕ) → w < 2 ^ 64
     → bs ≡ (w % 256) ∷ (w / 256 % 256) ∷ (w / 65536 % 256) ∷ (w / 16777216 % 256) ∷ (w / 4294967296 % 256) ∷ (w / 1099511627776 % 256)
     ∷ (w / 281474976710656 % 256) ∷ (w / 72057594037927936 % 256) ∷ []
     → bit_xor (bit_xor (bit_xor (bit_xor (bit_xor (bit_xor (bit_xor (after 64 (get_or bs 0 0)) (after 56 (get_or bs 1 0))) (after 48 (get_or bs 2 0)))
     (after 40 (get_or bs 3 0))) (after 32 (get_or bs 4 0))) (after 24 (get_or bs 5 0))) (after 16 (get_or bs 6 0))) (after 8 (get_or bs 7 0))
     ≡ after 64 w
-shifted-eight w bs h e =
+shifted_eight w bs h e =
     subst (λ bs. bit_xor (bit_xor (bit_xor (bit_xor (bit_xor (bit_xor (bit_xor (after 64 (get_or bs 0 0)) (after 56 (get_or bs 1 0))) (after 48 (get_or bs 2 0)))
     (after 40 (get_or bs 3 0))) (after 32 (get_or bs 4 0))) (after 24 (get_or bs 5 0))) (after 16 (get_or bs 6 0))) (after 8 (get_or bs 7 0)) ≡ after 64 w)
     (sym e) (sym (after-eight w h))
@@ -32,8 +32,8 @@ front_bytes : (n i : ℕ) (xs : List ℕ) → ((k : ℕ) → get_or xs k 0 < 256
 front_bytes zero i xs b = tt
 front_bytes (suc n) i xs b = (b i, front_bytes n (suc i) xs b)
 
-pub tail-bytes : (xs : List ℕ) → ((k : ℕ) → get_or xs k 0 < 256) → (k : ℕ) → get_or (take (length xs - 8) (drop 8 xs)) k 0 < 256
-tail-bytes xs b k =
+pub tail_bytes : (xs : List ℕ) → ((k : ℕ) → get_or xs k 0 < 256) → (k : ℕ) → get_or (take (length xs - 8) (drop 8 xs)) k 0 < 256
+tail_bytes xs b k =
     rw (take_rest, get_or-drop) (b _)
 
 pub through-eight : (c r f w : ℕ) (xs : List ℕ) → 8 ≤ length xs → ((k : ℕ) → get_or xs k 0 < 256) → f ≡ c

@@ -7,17 +7,17 @@ use Rattle.crc.specs.Burst.{Bytes}
 use Rattle.crc.specs.Crc.{polynomial, shifted, taken, register, low_bits, bits_of, after, through, crc_of, crc_bits, all_ones}
 
 -- the middle two of four change places
-pub swap-middle : (a b c d : ℕ) → bit_xor (bit_xor a b) (bit_xor c d) ≡ bit_xor (bit_xor a c) (bit_xor b d)
-swap-middle a b c d =
+pub swap_middle : (a b c d : ℕ) → bit_xor (bit_xor a b) (bit_xor c d) ≡ bit_xor (bit_xor a c) (bit_xor b d)
+swap_middle a b c d =
     xor_assoc a b (bit_xor c d) ∙ ap (bit_xor a) (sym (xor_assoc b c d) ∙ ap (λ x. bit_xor x d) (xor_comm b c) ∙ xor_assoc c b d)
     ∙ sym (xor_assoc a c (bit_xor b d))
 
-bit-times : (p x y : ℕ) → x < 2 → y < 2 → bit_xor x y * p ≡ bit_xor (x * p) (y * p)
-bit-times p zero y h k = rw zero-mul
-bit-times p (suc zero) zero h k = rw (one-mul, zero-mul, xor_zero_r)
-bit-times p (suc zero) (suc zero) h k = rw (zero-mul, one-mul) (sym (xor_self p))
-bit-times p (suc zero) (suc (suc y)) h k = absurd (omega arith)
-bit-times p (suc (suc x)) y h k = absurd (omega arith)
+bit_times : (p x y : ℕ) → x < 2 → y < 2 → bit_xor x y * p ≡ bit_xor (x * p) (y * p)
+bit_times p zero y h k = rw zero-mul
+bit_times p (suc zero) zero h k = rw (one-mul, zero-mul, xor_zero_r)
+bit_times p (suc zero) (suc zero) h k = rw (zero-mul, one-mul) (sym (xor_self p))
+bit_times p (suc zero) (suc (suc y)) h k = absurd (omega arith)
+bit_times p (suc (suc x)) y h k = absurd (omega arith)
 
 pub shifted-xor : (a b : ℕ) → shifted (bit_xor a b) ≡ bit_xor (shifted a) (shifted b)
 unfolding shifted
@@ -25,9 +25,9 @@ shifted-xor a b =
     let e : bit_xor a b / 2 ≡ bit_xor (a / 2) (b / 2) = xor_shr a b 1 in
     let m : bit_xor a b % 2 ≡ bit_xor (a % 2) (b % 2) = xor_mod a b 1 in
     let f : bit_xor (a % 2) (b % 2) * polynomial ≡ bit_xor (a % 2 * polynomial) (b % 2 * polynomial) =
-    bit-times polynomial (a % 2) (b % 2) (mod-lt a (lit< tt)) (mod-lt b (lit< tt)) in
+    bit_times polynomial (a % 2) (b % 2) (mod-lt a (lit< tt)) (mod-lt b (lit< tt)) in
     ap (λ x. bit_xor x (bit_xor a b % 2 * polynomial)) e ∙ ap (λ x. bit_xor (bit_xor (a / 2) (b / 2)) x) (ap (λ x. x * polynomial) m ∙ f)
-    ∙ swap-middle (a / 2) (b / 2) (a % 2 * polynomial) (b % 2 * polynomial)
+    ∙ swap_middle (a / 2) (b / 2) (a % 2 * polynomial) (b % 2 * polynomial)
 
 -- a number with nothing in its low bit only moves down
 pub shifted-double : (n : ℕ) → shifted (n * 2) ≡ n
@@ -89,10 +89,10 @@ unfolding register
 register-append c [] ys = refl
 register-append c (x ∷ xs) ys = register-append (taken c x) xs ys
 
-pub bits-append : (xs ys : List ℕ) → bits_of (xs ++ ys) ≡ bits_of xs ++ bits_of ys
+pub bits_append : (xs ys : List ℕ) → bits_of (xs ++ ys) ≡ bits_of xs ++ bits_of ys
 unfolding bits_of
-bits-append [] ys = refl
-bits-append (x ∷ xs) ys = ap (λ r. low_bits 8 x ++ r) (bits-append xs ys) ∙ sym (append_assoc (low_bits 8 x) (bits_of xs) (bits_of ys))
+bits_append [] ys = refl
+bits_append (x ∷ xs) ys = ap (λ r. low_bits 8 x ++ r) (bits_append xs ys) ∙ sym (append_assoc (low_bits 8 x) (bits_of xs) (bits_of ys))
 
 pub through-none : (c : ℕ) → through c [] ≡ c
 unfolding through bits_of register
@@ -102,9 +102,9 @@ pub through-more : (c b : ℕ) (bs : List ℕ) → b < 256 → through c (b ∷ 
 unfolding through bits_of
 through-more c b bs h = register-append c (low_bits 8 b) (bits_of bs) ∙ ap (λ r. register r (bits_of bs)) (register-low 8 c b h)
 
-pub crc-through : (bs : List ℕ) → crc_of bs ≡ bit_xor (through all_ones bs) all_ones
+pub crc_through : (bs : List ℕ) → crc_of bs ≡ bit_xor (through all_ones bs) all_ones
 unfolding crc_of crc_bits through
-crc-through bs = refl
+crc_through bs = refl
 
 -- one byte further on in a string
 pub through-next : (c i : ℕ) (bs : List ℕ) → i < length bs → get_or bs i 0 < 256
@@ -126,8 +126,8 @@ after-byte k w =
     ∙ ap (λ x. bit_xor x (after k (w / 256))) (sym (after-add 8 k (w % 256)))
 
 -- the same with what the bytes below came to
-next-byte : (acc k w v : ℕ) → w / 256 ≡ v → bit_xor acc (after (8 + k) w) ≡ bit_xor (bit_xor acc (after (8 + k) (w % 256))) (after k v)
-next-byte acc k w v e =
+next_byte : (acc k w v : ℕ) → w / 256 ≡ v → bit_xor acc (after (8 + k) w) ≡ bit_xor (bit_xor acc (after (8 + k) (w % 256))) (after k v)
+next_byte acc k w v e =
     ap (bit_xor acc) (after-byte k w) ∙ sym (xor_assoc acc (after (8 + k) (w % 256)) (after k (w / 256)))
     ∙ ap (λ n. bit_xor (bit_xor acc (after (8 + k) (w % 256))) (after k n)) e
 
@@ -140,10 +140,10 @@ pub after-eight : (w : ℕ) → w < 2 ^ 64 → after 64 w ≡
     (after 8 (w / 72057594037927936 % 256))
 after-eight w h =
     let top : w / 72057594037927936 ≡ w / 72057594037927936 % 256 = omega arith in
-    after-byte 56 w ∙ next-byte _ 48 (w / 256) (w / 65536) (shr-shr w 8 8) ∙ next-byte _ 40 (w / 65536) (w / 16777216) (shr-shr w 16 8)
-    ∙ next-byte _ 32 (w / 16777216) (w / 4294967296) (shr-shr w 24 8) ∙ next-byte _ 24 (w / 4294967296) (w / 1099511627776) (shr-shr w 32 8)
-    ∙ next-byte _ 16 (w / 1099511627776) (w / 281474976710656) (shr-shr w 40 8)
-    ∙ next-byte _ 8 (w / 281474976710656) (w / 72057594037927936) (shr-shr w 48 8) ∙ under _ top
+    after-byte 56 w ∙ next_byte _ 48 (w / 256) (w / 65536) (shr-shr w 8 8) ∙ next_byte _ 40 (w / 65536) (w / 16777216) (shr-shr w 16 8)
+    ∙ next_byte _ 32 (w / 16777216) (w / 4294967296) (shr-shr w 24 8) ∙ next_byte _ 24 (w / 4294967296) (w / 1099511627776) (shr-shr w 32 8)
+    ∙ next_byte _ 16 (w / 1099511627776) (w / 281474976710656) (shr-shr w 40 8)
+    ∙ next_byte _ 8 (w / 281474976710656) (w / 72057594037927936) (shr-shr w 48 8) ∙ under _ top
 
 -- the low byte of the register, with a byte added, shifted; what is above it comes down
 pub after_table : (c b : ℕ) → b < 256 → bit_xor (after 8 (bit_xor (c % 256) b)) (c / 256) ≡ after 8 (bit_xor c b)
@@ -176,4 +176,4 @@ through-joined c (b ∷ bs) h =
 
 pub through-append : (c : ℕ) (xs ys : List ℕ) → through c (xs ++ ys) ≡ through (through c xs) ys
 unfolding through
-through-append c xs ys = ap (register c) (bits-append xs ys) ∙ register-append c (bits_of xs) (bits_of ys)
+through-append c xs ys = ap (register c) (bits_append xs ys) ∙ register-append c (bits_of xs) (bits_of ys)

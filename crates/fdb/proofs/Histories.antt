@@ -73,16 +73,16 @@ unremembered : (tick : ℕ) (es : List Entry) (k : ℕ) → find k (filter (fres
 unfolding remembered
 unremembered tick es k = refl
 
-pub sound-after : (es : List Event) → Sound (after es)
+pub sound_after : (es : List Event) → Sound (after es)
 unfolding after ascending
-sound-after [] = record { sorted = refl; within = omega arith }
-sound-after (Heard s at tick keep ∷ es) = go (group_address s.address) refl (sound-after es)
+sound_after [] = record { sorted = refl; within = omega arith }
+sound_after (Heard s at tick keep ∷ es) = go (group_address s.address) refl (sound_after es)
   where
     go : (b : Bool) → group_address s.address ≡ b → Sound (after es) → Sound (learnt s at tick keep (after es))
     go true g ok = rw (learnt-group s at tick keep (after es) g) ok
     go false g ok = (learns s at tick keep (after es) ok g).sound
-sound-after (Passed tick ∷ es) = (ages tick (after es) (sound-after es)).sound
-sound-after (Cleared ∷ es) = record { sorted = refl; within = omega arith }
+sound_after (Passed tick ∷ es) = (ages tick (after es) (sound_after es)).sound
+sound_after (Cleared ∷ es) = record { sorted = refl; within = omega arith }
 
 -- what is held of a station is the last thing that was heard of it
 abbrev Shows : ℕ → Entry → List Event → Type 0
@@ -102,52 +102,52 @@ shows (Heard s at tick keep ∷ es) k e f = go (who k s) (shows es k e)
       | same h ↦ rw y (ih (sym h ∙ f))
       | gone h i ↦ absurd (let z : ◌≡◌ {A = ℕ} 0 1 = cc in omega arith)
     ]
-shows (Passed tick ∷ es) k e f = shows es k e (find-kept-back (fresh tick) k (after es).entries e (sound-after es).sorted (unremembered tick (after es).entries k ∙ f))
+shows (Passed tick ∷ es) k e f = shows es k e (find-kept-back (fresh tick) k (after es).entries e (sound_after es).sorted (unremembered tick (after es).entries k ∙ f))
 shows (Cleared ∷ es) k e f = absurd (let z : ◌≡◌ {A = ℕ} 0 1 = cc in omega arith)
 
 -- what is heard of another says nothing of a station
-last-other : (k : ℕ) (s : Station) (at : Location) (tick : ℕ) (keep : Station) (es : List Event) → hears k s ≡ false → last_heard k (Heard s at tick keep ∷ es) ≡ last_heard k es
+last_other : (k : ℕ) (s : Station) (at : Location) (tick : ℕ) (keep : Station) (es : List Event) → hears k s ≡ false → last_heard k (Heard s at tick keep ∷ es) ≡ last_heard k es
 unfolding last_heard
-last-other k s at tick keep es n = rw n refl
+last_other k s at tick keep es n = rw n refl
 
-last-itself : (k : ℕ) (s : Station) (at : Location) (tick : ℕ) (keep : Station) (es : List Event) → hears k s ≡ true →
+last_itself : (k : ℕ) (s : Station) (at : Location) (tick : ℕ) (keep : Station) (es : List Event) → hears k s ≡ true →
     last_heard k (Heard s at tick keep ∷ es) ≡ Some (record { at = at; tick = tick; turn = length es })
 unfolding last_heard
-last-itself k s at tick keep es y = rw y refl
+last_itself k s at tick keep es y = rw y refl
 
-last-passed : (k tick : ℕ) (es : List Event) → last_heard k (Passed tick ∷ es) ≡ last_heard k es
+last_passed : (k tick : ℕ) (es : List Event) → last_heard k (Passed tick ∷ es) ≡ last_heard k es
 unfolding last_heard
-last-passed k tick es = refl
+last_passed k tick es = refl
 
-evicted-other : (k : ℕ) (s : Station) (at : Location) (tick : ℕ) (keep : Station) (es : List Event) → hears k s ≡ false →
+evicted_other : (k : ℕ) (s : Station) (at : Location) (tick : ℕ) (keep : Station) (es : List Event) → hears k s ≡ false →
     evicted_since k (Heard s at tick keep ∷ es) ≡ (is_of k (goes s keep (after es)) || evicted_since k es)
 unfolding evicted_since
-evicted-other k s at tick keep es n = rw n refl
+evicted_other k s at tick keep es n = rw n refl
 
-same-tick : (o : Option Sighting) (h w : Sighting) (t : ℕ) → o ≡ Some h → o ≡ Some w → w.tick ≡ t → h.tick ≡ t
-same-tick o h w t p q e = let z : h ≡ w = cc in ap (λ x. x.tick) z ∙ e
+same_tick : (o : Option Sighting) (h w : Sighting) (t : ℕ) → o ≡ Some h → o ≡ Some w → w.tick ≡ t → h.tick ≡ t
+same_tick o h w t p q e = let z : h ≡ w = cc in ap (λ x. x.tick) z ∙ e
 
 -- what was heard less than 300 ticks ago, and did not go, is held
-held-still : (es : List Event) → rising es ≡ true → (k : ℕ) (h : Sighting) → last_heard k es ≡ Some h → clock es < h.tick + 300 → evicted_since k es ≡ false → find k (after es).entries ≡ None → ⊥
+held_still : (es : List Event) → rising es ≡ true → (k : ℕ) (h : Sighting) → last_heard k es ≡ Some h → clock es < h.tick + 300 → evicted_since k es ≡ false → find k (after es).entries ≡ None → ⊥
 unfolding rising last_heard clock evicted_since after
-held-still [] r k h l c v f = let z : ◌≡◌ {A = ℕ} 0 1 = cc in omega arith
-held-still (Heard s at tick keep ∷ es) r k h l c v f = go (who k s) (held-still es rs.1 k h)
+held_still [] r k h l c v f = let z : ◌≡◌ {A = ℕ} 0 1 = cc in omega arith
+held_still (Heard s at tick keep ∷ es) r k h l c v f = go (who k s) (held_still es rs.1 k h)
   where
     rs : (leb (clock es) tick ≡ true) × (rising es ≡ true)
     rs = and_parts (leb (clock es) tick) (rising es) r
 
     go : Who k s → (last_heard k es ≡ Some h → clock es < h.tick + 300 → evicted_since k es ≡ false → find k (after es).entries ≡ None → ⊥) → ⊥
-    go (group g n) ih = ih (sym (last-other k s at tick keep es n) ∙ l) (omega (arith, leb-true (clock es) tick rs.0))
-        (or_parts (is_of k (goes s keep (after es))) (evicted_since k es) (sym (evicted-other k s at tick keep es n) ∙ v)).1 (ap (λ d. find k d.entries) (sym (learnt-group s at tick keep (after es) g)) ∙ f)
+    go (group g n) ih = ih (sym (last_other k s at tick keep es n) ∙ l) (omega (arith, leb-true (clock es) tick rs.0))
+        (or_parts (is_of k (goes s keep (after es))) (evicted_since k es) (sym (evicted_other k s at tick keep es n) ∙ v)).1 (ap (λ d. find k d.entries) (sym (learnt-group s at tick keep (after es) g)) ∙ f)
     go (itself g q y) ih = let z : ◌≡◌ {A = ℕ} 0 1 = cc (find-itself s at tick keep (after es) g) in omega arith
     go (another g n y) ih =
         let ps : (is_of k (goes s keep (after es)) ≡ false) × (evicted_since k es ≡ false)
-        = or_parts (is_of k (goes s keep (after es))) (evicted_since k es) (sym (evicted-other k s at tick keep es y) ∙ v) in
+        = or_parts (is_of k (goes s keep (after es))) (evicted_since k es) (sym (evicted_other k s at tick keep es y) ∙ v) in
         elim (find-another s at tick keep (after es) k g n) [
-          | same q ↦ ih (sym (last-other k s at tick keep es y) ∙ l) (omega (arith, leb-true (clock es) tick rs.0)) ps.1 (sym q ∙ f)
+          | same q ↦ ih (sym (last_other k s at tick keep es y) ∙ l) (omega (arith, leb-true (clock es) tick rs.0)) ps.1 (sym q ∙ f)
           | gone q i ↦ both_ways (is_of k (goes s keep (after es))) ps.0 i
         ]
-held-still (Passed tick ∷ es) r k h l c v f = go (find k (after es).entries) refl (held-still es rs.1 k h l (omega (arith, leb-true (clock es) tick rs.0)) v)
+held_still (Passed tick ∷ es) r k h l c v f = go (find k (after es).entries) refl (held_still es rs.1 k h l (omega (arith, leb-true (clock es) tick rs.0)) v)
   where
     rs : (leb (clock es) tick ≡ true) × (rising es ≡ true)
     rs = and_parts (leb (clock es) tick) (rising es) r
@@ -156,23 +156,23 @@ held-still (Passed tick ∷ es) r k h l c v f = go (find k (after es).entries) r
     go None q ih = ih q
     go (Some e) q ih =
         let w = shows es k e q in
-        let t : h.tick ≡ e.tick = same-tick (last_heard k es) h w.0 e.tick l w.1 w.3 in
+        let t : h.tick ≡ e.tick = same_tick (last_heard k es) h w.0 e.tick l w.1 w.3 in
         let y : find k (filter (fresh tick) (after es).entries) ≡ Some e = find-kept-yes (fresh tick) k (after es).entries e q (lt-ltb tick (e.tick + 300) (omega arith)) in
         let z : ◌≡◌ {A = ℕ} 0 1 = cc (unremembered tick (after es).entries k) in omega arith
-held-still (Cleared ∷ es) r k h l c v f = let z : ◌≡◌ {A = ℕ} 0 1 = cc in omega arith
+held_still (Cleared ∷ es) r k h l c v f = let z : ◌≡◌ {A = ℕ} 0 1 = cc in omega arith
 
-gone-already : (es : List Event) (k tick : ℕ) → find k (after es).entries ≡ None → find k (after (Passed tick ∷ es)).entries ≡ None
+gone_already : (es : List Event) (k tick : ℕ) → find k (after es).entries ≡ None → find k (after (Passed tick ∷ es)).entries ≡ None
 unfolding after remembered
-gone-already es k tick q = find-kept k (fresh tick) (after es).entries q
+gone_already es k tick q = find-kept k (fresh tick) (after es).entries q
 
-gone-now : (es : List Event) (k tick : ℕ) (e : Entry) → find k (after es).entries ≡ Some e → e.tick + 300 ≤ tick → find k (after (Passed tick ∷ es)).entries ≡ None
+gone_now : (es : List Event) (k tick : ℕ) (e : Entry) → find k (after es).entries ≡ Some e → e.tick + 300 ≤ tick → find k (after (Passed tick ∷ es)).entries ≡ None
 unfolding after remembered
-gone-now es k tick e q l = find-kept-no (fresh tick) k (after es).entries e (sound-after es).sorted q (le-ltb tick (e.tick + 300) l)
+gone_now es k tick e q l = find-kept-no (fresh tick) k (after es).entries e (sound_after es).sorted q (le-ltb tick (e.tick + 300) l)
 
 pub history : History
 history es r k = record {
   last = λ at p. named at (find k (after es).entries) refl p;
-  known = λ h l c v. remembers h l (find k (after es).entries) refl (held-still es r k h l c v);
+  known = λ h l c v. remembers h l (find k (after es).entries) refl (held_still es r k h l c v);
   forgotten = λ h tick l o. forgets h tick l o (find k (after es).entries) refl;
 }
   where
@@ -187,11 +187,11 @@ history es r k = record {
         rw q (ap (λ x. Some x) (sym w.2 ∙ ap (λ x. x.at) (sym z)))
 
     forgets : (h : Sighting) (tick : ℕ) → last_heard k es ≡ Some h → h.tick + 300 ≤ tick → (o : Option Entry) → find k (after es).entries ≡ o → place_of (after (Passed tick ∷ es)).entries k ≡ None
-    forgets h tick l m None q = ap where_is (gone-already es k tick q)
+    forgets h tick l m None q = ap where_is (gone_already es k tick q)
     forgets h tick l m (Some e) q =
         let w = shows es k e q in
-        let t : h.tick ≡ e.tick = same-tick (last_heard k es) h w.0 e.tick l w.1 w.3 in
-        ap where_is (gone-now es k tick e q (omega arith))
+        let t : h.tick ≡ e.tick = same_tick (last_heard k es) h w.0 e.tick l w.1 w.3 in
+        ap where_is (gone_now es k tick e q (omega arith))
 
 -- what a station was heard at stands in the order in which all was heard
 heard-few : (es : List Event) → (after es).heard ≤ length es
@@ -212,12 +212,12 @@ turn_below k (Passed tick ∷ es) h l = let q = turn_below k es h l in omega ari
 turn_below k (Cleared ∷ es) h l = grind arith
 
 -- no two stations are heard at once
-turns-differ : (j k : ℕ) (es : List Event) (g h : Sighting) → last_heard j es ≡ Some g → last_heard k es ≡ Some h → (j ≡ k → ⊥) → g.turn ≡ h.turn → ⊥
+turns_differ : (j k : ℕ) (es : List Event) (g h : Sighting) → last_heard j es ≡ Some g → last_heard k es ≡ Some h → (j ≡ k → ⊥) → g.turn ≡ h.turn → ⊥
 unfolding last_heard
-turns-differ j k [] g h p q n e = grind arith
-turns-differ j k (Heard s at tick keep ∷ es) g h p q n e = grind (arith, nat_tests, turns-differ j k es g h, turn_below j es g, turn_below k es h)
-turns-differ j k (Passed tick ∷ es) g h p q n e = turns-differ j k es g h p q n e
-turns-differ j k (Cleared ∷ es) g h p q n e = grind arith
+turns_differ j k [] g h p q n e = grind arith
+turns_differ j k (Heard s at tick keep ∷ es) g h p q n e = grind (arith, nat_tests, turns_differ j k es g h, turn_below j es g, turn_below k es h)
+turns_differ j k (Passed tick ∷ es) g h p q n e = turns_differ j k es g h p q n e
+turns_differ j k (Cleared ∷ es) g h p q n e = grind arith
 
 -- what was found of another before a station was heard
 before : (s : Station) (at : Location) (tick : ℕ) (keep : Station) (c : Contents) (k : ℕ) (e : Entry) → group_address s.address ≡ false → (k ≡ number_of s → ⊥) →
@@ -251,7 +251,7 @@ older (Heard s at tick keep ∷ es) r m k e f = go (who k s) (older es rs.1 (ome
         let i = ih (before s at tick keep (after es) k e g n f) in (omega (arith, heard-next s at tick keep (after es) g few), omega (arith, late))
 older (Passed tick ∷ es) r m k e f =
     let rs : (leb (clock es) tick ≡ true) × (rising es ≡ true) = and_parts (leb (clock es) tick) (rising es) r in
-    let i = older es rs.1 (omega arith) k e (find-kept-back (fresh tick) k (after es).entries e (sound-after es).sorted (unremembered tick (after es).entries k ∙ f)) in
+    let i = older es rs.1 (omega arith) k e (find-kept-back (fresh tick) k (after es).entries e (sound_after es).sorted (unremembered tick (after es).entries k ∙ f)) in
     (i.0, omega (arith, leb-true (clock es) tick rs.0))
 older (Cleared ∷ es) r m k e f = absurd (let z : ◌≡◌ {A = ℕ} 0 1 = cc in omega arith)
 
@@ -269,7 +269,7 @@ sooner (Heard s at tick keep ∷ es) r m j k d e g h fj fk lj lk t = go (who j s
     late = leb-true (clock es) tick rs.0
 
     was : (i : ℕ) → hears i s ≡ false → (w : Sighting) → last_heard i (Heard s at tick keep ∷ es) ≡ Some w → last_heard i es ≡ Some w
-    was i n w l = sym (last-other i s at tick keep es n) ∙ l
+    was i n w l = sym (last_other i s at tick keep es n) ∙ l
 
     go : Who j s → Who k s →
         (find j (after es).entries ≡ Some d → find k (after es).entries ≡ Some e → last_heard j es ≡ Some g → last_heard k es ≡ Some h → g.turn < h.turn → (d.order < e.order) × (d.tick ≤ e.tick)) →
@@ -280,7 +280,7 @@ sooner (Heard s at tick keep ∷ es) r m j k d e g h fj fk lj lk t = go (who j s
     go (group a n) (itself b p o) ih = absurd (both_ways (group_address s.address) b a)
     go (group a n) (another b p o) ih = absurd (both_ways (group_address s.address) b a)
     go (itself a p n) w ih =
-        let z : g ≡ record { at = at; tick = tick; turn = length es } = cc (last-itself j s at tick keep es n) in
+        let z : g ≡ record { at = at; tick = tick; turn = length es } = cc (last_itself j s at tick keep es n) in
         let q = turn_below k (Heard s at tick keep ∷ es) h lk in absurd (omega (arith, ap (λ x. x.turn) z))
     go (another a p n) (group b o) ih = absurd (both_ways (group_address s.address) a b)
     go (another a p n) (itself b q o) ih =
@@ -291,14 +291,14 @@ sooner (Heard s at tick keep ∷ es) r m j k d e g h fj fk lj lk t = go (who j s
         ih (before s at tick keep (after es) j d a p fj) (before s at tick keep (after es) k e b q fk) (was j n g lj) (was k o h lk) t
 sooner (Passed tick ∷ es) r m j k d e g h fj fk lj lk t =
     sooner es (and_parts (leb (clock es) tick) (rising es) r).1 (omega arith) j k d e g h
-    (find-kept-back (fresh tick) j (after es).entries d (sound-after es).sorted (unremembered tick (after es).entries j ∙ fj))
-    (find-kept-back (fresh tick) k (after es).entries e (sound-after es).sorted (unremembered tick (after es).entries k ∙ fk))
-    (sym (last-passed j tick es) ∙ lj) (sym (last-passed k tick es) ∙ lk) t
+    (find-kept-back (fresh tick) j (after es).entries d (sound_after es).sorted (unremembered tick (after es).entries j ∙ fj))
+    (find-kept-back (fresh tick) k (after es).entries e (sound_after es).sorted (unremembered tick (after es).entries k ∙ fk))
+    (sym (last_passed j tick es) ∙ lj) (sym (last_passed k tick es) ∙ lk) t
 sooner (Cleared ∷ es) r m j k d e g h fj fk lj lk t = absurd (let z : ◌≡◌ {A = ℕ} 0 1 = cc in omega arith)
 
-only-some : {X : Type 0} (b : Bool) (o : Option X) (v : X) → cond b None o ≡ Some v → o ≡ Some v
-only-some true o v h = absurd (let z : ◌≡◌ {A = ℕ} 0 1 = cc in omega arith)
-only-some false o v h = h
+only_some : {X : Type 0} (b : Bool) (o : Option X) (v : X) → cond b None o ≡ Some v → o ≡ Some v
+only_some true o v h = absurd (let z : ◌≡◌ {A = ℕ} 0 1 = cc in omega arith)
+only_some false o v h = h
 
 pub longest : Longest
 longest es r m s keep v o = (
@@ -306,8 +306,8 @@ longest es r m s keep v o = (
   λ k e f n u h w lk lv. elim (cases_lt w.turn h.turn) [
     | inl l ↦ l
     | inr l ↦ absurd (
-        let t = turns-differ k v.station es h w lk lv u in
-        let q = sooner es r m k v.station e v h w f (oldest-held (number_of keep) held v (sound-after es).sorted old) lk lv (omega (arith, t)) in
+        let t = turns_differ k v.station es h w lk lv u in
+        let q = sooner es r m k v.station e v h w f (oldest-held (number_of keep) held v (sound_after es).sorted old) lk lv (omega (arith, t)) in
         let b : earlier e v ≡ true = grind (arith, nat_tests) in
         both_ways (earlier e v) (oldest-first (number_of keep) k held v e old f n) b)
   ],
@@ -317,4 +317,4 @@ longest es r m s keep v o = (
     held = (after es).entries
 
     old : oldest (number_of keep) (after es).entries ≡ Some v
-    old = only-some (group_address s.address || (is_some (find (number_of s) (after es).entries) || ltb (length (after es).entries) most)) (oldest (number_of keep) (after es).entries) v o
+    old = only_some (group_address s.address || (is_some (find (number_of s) (after es).entries) || ltb (length (after es).entries) most)) (oldest (number_of keep) (after es).entries) v o

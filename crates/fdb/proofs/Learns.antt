@@ -8,7 +8,7 @@ use Rattle.fdb.specs.Learning.{Sound, Evicts, Learning}
 use Rattle.fdb.specs.Ageing.{Ageing}
 use Rattle.fdb.specs.declared.table.Table.{Table}
 use Rattle.fdb.specs.Held.{contents}
-use Rattle.fdb.proofs.Ordered.{room-ascending, learned-ascending, ascending-remembered, oldest-some, room-new, find-kept}
+use Rattle.fdb.proofs.Ordered.{room_ascending, learned-ascending, ascending-remembered, oldest-some, room_new, find-kept}
 use Rattle.fdb.proofs.Found.{find-put, find-put-other, find-without, find-without-other, length-put-new, length-put-known, length-kept, length_without, oldest-other, oldest-held, oldest-first, find-kept-yes, find-kept-no}
 
 -- what is found of a station after room was made: what was, or nothing, of the one that went
@@ -49,7 +49,7 @@ unfolding learned
 learned-length e keep es a l = go (find e.station es) refl
   where
     go : (f : Option Entry) → find e.station es ≡ f → length (learned e keep es) ≤ most
-    go None q = rw q (let h = length-put-new e (room_for keep es) (room-ascending keep es a) (room-new e.station keep es q) in let r = room-length keep es a l in omega arith)
+    go None q = rw q (let h = length-put-new e (room_for keep es) (room_ascending keep es a) (room_new e.station keep es q) in let r = room-length keep es a l in omega arith)
     go (Some x) q = rw q (let h = length-put-known e es x a q in omega arith)
 
 pub learns : Learning
@@ -98,5 +98,5 @@ ages tick c ok = record {
 }
 
 -- what a table in memory holds is sound, for those who use the theorems
-pub sound-table : (t : Table) → Sound (contents t)
-sound-table t = record { sorted = t.sorted; within = omega (arith, t.room, t.entries.ok.0) }
+pub sound_table : (t : Table) → Sound (contents t)
+sound_table t = record { sorted = t.sorted; within = omega (arith, t.room, t.entries.ok.0) }

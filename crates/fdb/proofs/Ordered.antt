@@ -75,13 +75,13 @@ unfolding above without
 without-above s [] h = refl
 without-above s (x ∷ xs) h = let p = and_parts (ltb s x.station) (above s xs) h in grind (arith, nat_tests, without-above s xs p.1)
 
-pub removed-without : (es : List Entry) → ascending es ≡ true → (i : ℕ) → i < length es → remove es i ≡ without (get_or es i no_entry).station es
+pub removed_without : (es : List Entry) → ascending es ≡ true → (i : ℕ) → i < length es → remove es i ≡ without (get_or es i no_entry).station es
 unfolding ascending without
-removed-without [] h i l = absurd (omega arith)
-removed-without (x ∷ xs) h zero l = grind (arith, nat_tests, without-above x.station xs (and_parts (above x.station xs) (ascending xs) h).0)
-removed-without (x ∷ xs) h (suc i) l =
+removed_without [] h i l = absurd (omega arith)
+removed_without (x ∷ xs) h zero l = grind (arith, nat_tests, without-above x.station xs (and_parts (above x.station xs) (ascending xs) h).0)
+removed_without (x ∷ xs) h (suc i) l =
     let p = and_parts (above x.station xs) (ascending xs) h in
-    let a = above_at x.station xs p.0 i (omega arith) in grind (arith, nat_tests, removed-without xs p.1 i (omega arith))
+    let a = above_at x.station xs p.0 i (omega arith) in grind (arith, nat_tests, removed_without xs p.1 i (omega arith))
 
 -- the order stays when an entry is put in its place, and when some are left out
 above-put : (s : ℕ) (e : Entry) (xs : List Entry) → s < e.station → above s xs ≡ true → above s (put e xs) ≡ true
@@ -120,9 +120,9 @@ ascending-none es e = subst (λ xs. ascending xs ≡ true) (sym e) refl
 pub stands_at : (s : ℕ) (es : List Entry) → ascending es ≡ true → (i : ℕ) → i < length es → (get_or es i no_entry).station ≡ s → StandsAt s es i
 stands_at s es h i l e = (l, find_at s es h i l e, λ x q. put-set x es h i l (e ∙ sym q))
 
-pub belongs-at : (s : ℕ) (es : List Entry) (i : ℕ) → i ≤ length es → ((k : ℕ) → k < i → (get_or es k no_entry).station < s) →
+pub belongs_at : (s : ℕ) (es : List Entry) (i : ℕ) → i ≤ length es → ((k : ℕ) → k < i → (get_or es k no_entry).station < s) →
     ((k : ℕ) → i ≤ k → k < length es → s < (get_or es k no_entry).station) → BelongsAt s es i
-belongs-at s es i l b a = (
+belongs_at s es i l b a = (
   l,
   find-nowhere s es (λ k m e. elim (cases_lt k i) [ inl p ↦ (let q = b k p in omega arith) | inr p ↦ (let q = a k p m in omega arith) ]),
   λ x q. put-inserted x es i l (λ k m. let p = b k m in omega arith) (λ k m n. let p = a k m n in omega arith),
@@ -141,31 +141,31 @@ find-kept s p [] n = refl
 find-kept s p (x ∷ xs) n = grind (arith, nat_tests, find-kept s p xs)
 
 -- room is made for a new station: the order stays, and it is still new
-pub room-ascending : (keep : ℕ) (es : List Entry) → ascending es ≡ true → ascending (room_for keep es) ≡ true
+pub room_ascending : (keep : ℕ) (es : List Entry) → ascending es ≡ true → ascending (room_for keep es) ≡ true
 unfolding room_for without
-room-ascending keep es h =
+room_ascending keep es h =
     cond_both (ltb (length es) most) es (evicted (oldest keep es) es) (λ xs. ascending xs ≡ true) (λ _. h) (λ _. go (oldest keep es))
   where
     go : (v : Option Entry) → ascending (evicted v es) ≡ true
     go None = h
     go (Some v) = ascending-kept _ es h
 
-pub room-new : (s keep : ℕ) (es : List Entry) → find s es ≡ None → find s (room_for keep es) ≡ None
+pub room_new : (s keep : ℕ) (es : List Entry) → find s es ≡ None → find s (room_for keep es) ≡ None
 unfolding room_for without
-room-new s keep es h =
+room_new s keep es h =
     cond_both (ltb (length es) most) es (evicted (oldest keep es) es) (λ xs. find s xs ≡ None) (λ _. h) (λ _. go (oldest keep es))
   where
     go : (v : Option Entry) → find s (evicted v es) ≡ None
     go None = h
     go (Some v) = find-kept s _ es h
 
-pub room-free : (keep : ℕ) (es : List Entry) → length es < 4096 → es ≡ room_for keep es
+pub room_free : (keep : ℕ) (es : List Entry) → length es < 4096 → es ≡ room_for keep es
 unfolding room_for
-room-free keep es l = grind (arith, nat_tests)
+room_free keep es l = grind (arith, nat_tests)
 
-pub room-full : (keep : ℕ) (es : List Entry) (i : ℕ) → ascending es ≡ true → 4096 ≤ length es → i < length es → oldest keep es ≡ Some (get_or es i no_entry) → remove es i ≡ room_for keep es
+pub room_full : (keep : ℕ) (es : List Entry) (i : ℕ) → ascending es ≡ true → 4096 ≤ length es → i < length es → oldest keep es ≡ Some (get_or es i no_entry) → remove es i ≡ room_for keep es
 unfolding room_for
-room-full keep es i h m l o = removed-without es h i l ∙ rw (le-ltb (length es) most m, o)
+room_full keep es i h m l o = removed_without es h i l ∙ rw (le-ltb (length es) most m, o)
 
 -- what is held after a station was heard, as one that is known and as a new one
 pub learned-known : (e : Entry) (keep : ℕ) (es : List Entry) (x : Entry) → find e.station es ≡ Some x → put e es ≡ learned e keep es
@@ -180,7 +180,7 @@ pub learned-ascending : (e : Entry) (keep : ℕ) (es : List Entry) → ascending
 unfolding learned
 learned-ascending e keep es h =
     ascending-put e (cond (is_some (find e.station es)) es (room_for keep es))
-    (cond_both (is_some (find e.station es)) es (room_for keep es) (λ xs. ascending xs ≡ true) (λ _. h) (λ _. room-ascending keep es h))
+    (cond_both (is_some (find e.station es)) es (room_for keep es) (λ xs. ascending xs ≡ true) (λ _. h) (λ _. room_ascending keep es h))
 
 pub noted : (e : Entry) (keep : ℕ) (es xs : List Entry) (i : ℕ) → xs ≡ es → StandsAt e.station xs i → set es i e ≡ learned e keep es
 noted e keep es xs i q s =

@@ -5,33 +5,33 @@ use Rattle.std.proofs.lemmas.Bool.{cases_eq}
 use Rattle.frames.specs.SettingsBytes.{vlan_in, vlans_can_be, VlansSay}
 
 -- no port yet
-pub vlans-none : (b : List ℕ) → (vlans_can_be b 0 ≡ true) × VlansSay b 0 (replicate 16 0)
+pub vlans_none : (b : List ℕ) → (vlans_can_be b 0 ≡ true) × VlansSay b 0 (replicate 16 0)
 unfolding vlans_can_be
-vlans-none b = (refl, record { there = λ k h. absurd (omega arith); others = λ k h n. none 16 k }) where
+vlans_none b = (refl, record { there = λ k h. absurd (omega arith); others = λ k h n. none 16 k }) where
   none : (n k : ℕ) → get_or {A = ℕ} (replicate n 0) k 0 ≡ 0
   none zero k = refl
   none (suc n) zero = refl
   none (suc n) (suc k) = none n k
 
-and-false : (t : Bool) → t && false ≡ false
-and-false true = refl
-and-false false = refl
+and_false : (t : Bool) → t && false ≡ false
+and_false true = refl
+and_false false = refl
 
 -- one vlan that can't be
-pub vlans-bad : (b : List ℕ) (n k : ℕ) → k < n → 4094 < vlan_in b k → vlans_can_be b n ≡ false
+pub vlans_bad : (b : List ℕ) (n k : ℕ) → k < n → 4094 < vlan_in b k → vlans_can_be b n ≡ false
 unfolding vlans_can_be
-vlans-bad b zero k h v = absurd (omega arith)
-vlans-bad b (suc n) k h v =
+vlans_bad b zero k h v = absurd (omega arith)
+vlans_bad b (suc n) k h v =
     elim (cases_eq k n) [
       | inl e ↦ ap (λ t. t && vlans_can_be b n) (lt-leb (vlan_in b n) 4094 (subst (λ j. 4094 < vlan_in b j) e v))
-      | inr ne ↦ ap (λ t. leb (vlan_in b n) 4094 && t) (vlans-bad b n k (omega arith) v) ∙ and-false (leb (vlan_in b n) 4094)
+      | inr ne ↦ ap (λ t. leb (vlan_in b n) 4094 && t) (vlans_bad b n k (omega arith) v) ∙ and_false (leb (vlan_in b n) 4094)
     ]
 
 -- one port more
-pub vlans-more : (b vs : List ℕ) (k v : ℕ) → length vs ≡ 16 → k < 16 → v ≡ vlan_in b k → v ≤ 4094 → vlans_can_be b k ≡ true → VlansSay b k vs
+pub vlans_more : (b vs : List ℕ) (k v : ℕ) → length vs ≡ 16 → k < 16 → v ≡ vlan_in b k → v ≤ 4094 → vlans_can_be b k ≡ true → VlansSay b k vs
     → (length (set vs k v) ≡ 16) × (vlans_can_be b (k + 1) ≡ true) × VlansSay b (k + 1) (set vs k v)
 unfolding vlans_can_be
-vlans-more b vs k v l h e m c s = (
+vlans_more b vs k v l h e m c s = (
   simp length-set l,
   rw add-one (ap (λ t. t && vlans_can_be b k) (le-leb (vlan_in b k) 4094 (subst (λ n. n ≤ 4094) e m)) ∙ c),
   record {

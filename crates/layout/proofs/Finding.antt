@@ -18,36 +18,36 @@ inside : (ss : List Station) (i : ℕ) → i < length ss → i < length (map pla
 inside ss i h = omega (arith, length-map ss placed)
 
 module _ (n : List ℕ) (ss : List Station) (i : ℕ) (d : Station) (h : i < length ss) (is : d ≡ get_or ss i d) where
-  name-at : (t : Bool) → t ≡ bytes_eq (text_of d.name) n → not (bytes_eq (get_or (map placed ss) i no_station).name n) ≡ not t
-  name-at t e = ap not (ap (λ s. bytes_eq s.name n) (get_or-map placed ss i d no_station h ∙ ap placed (sym is)) ∙ sym e)
+  name_at : (t : Bool) → t ≡ bytes_eq (text_of d.name) n → not (bytes_eq (get_or (map placed ss) i no_station).name n) ≡ not t
+  name_at t e = ap not (ap (λ s. bytes_eq s.name n) (get_or-map placed ss i d no_station h ∙ ap placed (sym is)) ∙ sym e)
 
-  pub name-more : false ≡ bytes_eq (text_of d.name) n → name_index n (drop i (map placed ss)) ≡ 1 + name_index n (drop (i + 1) (map placed ss))
+  pub name_more : false ≡ bytes_eq (text_of d.name) n → name_index n (drop i (map placed ss)) ≡ 1 + name_index n (drop (i + 1) (map placed ss))
   unfolding name_index
-  name-more e = prefix_len-drop_yes (λ s. not (bytes_eq s.name n)) (map placed ss) i no_station (inside ss i h) (name-at false e)
+  name_more e = prefix_len-drop_yes (λ s. not (bytes_eq s.name n)) (map placed ss) i no_station (inside ss i h) (name_at false e)
 
-  pub name-here : true ≡ bytes_eq (text_of d.name) n → name_index n (drop i (map placed ss)) ≡ 0
+  pub name_here : true ≡ bytes_eq (text_of d.name) n → name_index n (drop i (map placed ss)) ≡ 0
   unfolding name_index
-  name-here e = prefix_len-drop_no (λ s. not (bytes_eq s.name n)) (map placed ss) i no_station (inside ss i h) (name-at true e)
+  name_here e = prefix_len-drop_no (λ s. not (bytes_eq s.name n)) (map placed ss) i no_station (inside ss i h) (name_at true e)
 
-  address-at : (t : Bool) → t ≡ bytes_eq d.address n → not (bytes_eq (get_or (map placed ss) i no_station).address n) ≡ not t
-  address-at t e = ap not (ap (λ s. bytes_eq s.address n) (get_or-map placed ss i d no_station h ∙ ap placed (sym is)) ∙ sym e)
+  address_at : (t : Bool) → t ≡ bytes_eq d.address n → not (bytes_eq (get_or (map placed ss) i no_station).address n) ≡ not t
+  address_at t e = ap not (ap (λ s. bytes_eq s.address n) (get_or-map placed ss i d no_station h ∙ ap placed (sym is)) ∙ sym e)
 
   pub address_more : false ≡ bytes_eq d.address n → address_index n (drop i (map placed ss)) ≡ 1 + address_index n (drop (i + 1) (map placed ss))
   unfolding address_index
-  address_more e = prefix_len-drop_yes (λ s. not (bytes_eq s.address n)) (map placed ss) i no_station (inside ss i h) (address-at false e)
+  address_more e = prefix_len-drop_yes (λ s. not (bytes_eq s.address n)) (map placed ss) i no_station (inside ss i h) (address_at false e)
 
-  pub address-here : true ≡ bytes_eq d.address n → address_index n (drop i (map placed ss)) ≡ 0
+  pub address_here : true ≡ bytes_eq d.address n → address_index n (drop i (map placed ss)) ≡ 0
   unfolding address_index
-  address-here e = prefix_len-drop_no (λ s. not (bytes_eq s.address n)) (map placed ss) i no_station (inside ss i h) (address-at true e)
+  address_here e = prefix_len-drop_no (λ s. not (bytes_eq s.address n)) (map placed ss) i no_station (inside ss i h) (address_at true e)
 
 module _ (n : List ℕ) (ss : List Station) (i : ℕ) (h : length ss ≤ i) where
-  pub name-past : name_index n (drop i (map placed ss)) ≡ 0
+  pub name_past : name_index n (drop i (map placed ss)) ≡ 0
   unfolding name_index
-  name-past = prefix_len-drop_all (λ s. not (bytes_eq s.name n)) (map placed ss) i (omega (arith, length-map ss placed))
+  name_past = prefix_len-drop_all (λ s. not (bytes_eq s.name n)) (map placed ss) i (omega (arith, length-map ss placed))
 
-  pub address-past : address_index n (drop i (map placed ss)) ≡ 0
+  pub address_past : address_index n (drop i (map placed ss)) ≡ 0
   unfolding address_index
-  address-past = prefix_len-drop_all (λ s. not (bytes_eq s.address n)) (map placed ss) i (omega (arith, length-map ss placed))
+  address_past = prefix_len-drop_all (λ s. not (bytes_eq s.address n)) (map placed ss) i (omega (arith, length-map ss placed))
 
 -- the stations of a list, counted
 pub counted : (v : Vec Station Global) → length (placed_in v) ≡ vec_len v

@@ -16,10 +16,10 @@ use Rattle.forwarding.specs.Replies.{Way, Refuse, Newest, Older, none, after, go
 use Rattle.network.specs.Network.{Network, rules, vlan_of, is_here, handled, known_on, locate, track_of, came_from, first_copy, number_of_newest, One, pick}
 use Rattle.network.specs.Simulation.{tree_in, numbers, where_is, Simulates}
 use Rattle.network.proofs.Worlds.{follow, follow-append}
-use Rattle.network.proofs.Onward.{sent-refused}
-use Rattle.network.proofs.Handing.{none-get, getters-same}
-use Rattle.network.proofs.Standing.{bridge-same}
-use Rattle.network.proofs.Frames.{along-newest, along-older}
+use Rattle.network.proofs.Onward.{sent_refused}
+use Rattle.network.proofs.Handing.{none_get, getters-same}
+use Rattle.network.proofs.Standing.{bridge_same}
+use Rattle.network.proofs.Frames.{along_newest, along_older}
 use Rattle.network.proofs.Steady.{Flies, Steady}
 
 -- the copy at a place
@@ -30,40 +30,40 @@ arrives-pick (suc i) [] x w e = absurd (grind arith)
 arrives-pick zero (y ∷ ys) x w e = let q : y ≡ x = cc in subst (λ z. receive false rules y (tree_of y.frame.tree w.trees) w ≡ receive false rules z (tree_of z.frame.tree w.trees) w) q refl
 arrives-pick (suc i) (y ∷ ys) x w e = arrives-pick i ys x w e
 
-pub pick-mem : (i : ℕ) (xs : List Copy) (x : Copy) → pick i xs ≡ One x → Memᴰ x xs
+pub pick_mem : (i : ℕ) (xs : List Copy) (x : Copy) → pick i xs ≡ One x → Memᴰ x xs
 unfolding pick
-pick-mem zero [] x e = absurd (grind arith)
-pick-mem (suc i) [] x e = absurd (grind arith)
-pick-mem zero (y ∷ ys) x e = let q : x ≡ y = cc in Memᴰ.head q
-pick-mem (suc i) (y ∷ ys) x e = Memᴰ.tail (pick-mem i ys x e)
+pick_mem zero [] x e = absurd (grind arith)
+pick_mem (suc i) [] x e = absurd (grind arith)
+pick_mem zero (y ∷ ys) x e = let q : x ≡ y = cc in Memᴰ.head q
+pick_mem (suc i) (y ∷ ys) x e = Memᴰ.tail (pick_mem i ys x e)
 
 -- a bridge holds the trees of its two slots
-pub holds-either : (u : ℕ) (newest older : Found) → is_in u (numbers (tree_in newest ++ tree_in older)) ≡ (is_tree u newest || is_tree u older)
+pub holds_either : (u : ℕ) (newest older : Found) → is_in u (numbers (tree_in newest ++ tree_in older)) ≡ (is_tree u newest || is_tree u older)
 unfolding numbers is_in
-holds-either u NoTree NoTree = refl
-holds-either u NoTree (This t) = grind (arith, nat_tests)
-holds-either u (This t) NoTree = grind (arith, nat_tests)
-holds-either u (This t) (This v) = grind (arith, nat_tests)
+holds_either u NoTree NoTree = refl
+holds_either u NoTree (This t) = grind (arith, nat_tests)
+holds_either u (This t) NoTree = grind (arith, nat_tests)
+holds_either u (This t) (This v) = grind (arith, nat_tests)
 
-pub tree-of : (u : ℕ) (tree : Found) → is_tree u tree ≡ true → (t : Tree) × (tree ≡ This t) × (t.number ≡ u)
-tree-of u NoTree e = absurd (grind arith)
-tree-of u (This t) e = let q : t.number ≡ u = grind (arith, nat_tests) in (t, refl, q)
+pub tree_of_lem : (u : ℕ) (tree : Found) → is_tree u tree ≡ true → (t : Tree) × (tree ≡ This t) × (t.number ≡ u)
+tree_of_lem u NoTree e = absurd (grind arith)
+tree_of_lem u (This t) e = let q : t.number ≡ u = grind (arith, nat_tests) in (t, refl, q)
 
-pub has-tree : (tree : Found) → none tree ≡ false → (t : Tree) × (tree ≡ This t)
-has-tree NoTree e = absurd (grind arith)
-has-tree (This t) e = (t, refl)
+pub has_tree : (tree : Found) → none tree ≡ false → (t : Tree) × (tree ≡ This t)
+has_tree NoTree e = absurd (grind arith)
+has_tree (This t) e = (t, refl)
 
 -- what is held is announced
-announced-newest : (n : Network) (w : World) (b : ℕ) (t : Tree) → b < 128 → Simulates n w → (n.bridge b).newest.tree ≡ This t → tree_of t.number w.trees ≡ This t
-announced-newest n w b t lt i e = i.held_so b t lt (Memᴰ.append_left (tree_in (n.bridge b).older.tree) (subst (λ f. Memᴰ t (tree_in f)) (sym e) (Memᴰ.head refl)))
+announced_newest : (n : Network) (w : World) (b : ℕ) (t : Tree) → b < 128 → Simulates n w → (n.bridge b).newest.tree ≡ This t → tree_of t.number w.trees ≡ This t
+announced_newest n w b t lt i e = i.held_so b t lt (Memᴰ.append_left (tree_in (n.bridge b).older.tree) (subst (λ f. Memᴰ t (tree_in f)) (sym e) (Memᴰ.head refl)))
 
-announced-older : (n : Network) (w : World) (b : ℕ) (t : Tree) → b < 128 → Simulates n w → (n.bridge b).older.tree ≡ This t → tree_of t.number w.trees ≡ This t
-announced-older n w b t lt i e = i.held_so b t lt (Memᴰ.append_right (tree_in (n.bridge b).newest.tree) (subst (λ f. Memᴰ t (tree_in f)) (sym e) (Memᴰ.head refl)))
+announced_older : (n : Network) (w : World) (b : ℕ) (t : Tree) → b < 128 → Simulates n w → (n.bridge b).older.tree ≡ This t → tree_of t.number w.trees ≡ This t
+announced_older n w b t lt i e = i.held_so b t lt (Memᴰ.append_right (tree_in (n.bridge b).newest.tree) (subst (λ f. Memᴰ t (tree_in f)) (sym e) (Memᴰ.head refl)))
 
 -- whence it came, in the words of both nets
-back-so : (trail : List ℕ) (c : ℕ) → not_to_bridge (came_from trail) c ≡ not_back trail c
-back-so [] c = refl
-back-so (b ∷ bs) c = refl
+back_so : (trail : List ℕ) (c : ℕ) → not_to_bridge (came_from trail) c ≡ not_back trail c
+back_so [] c = refl
+back_so (b ∷ bs) c = refl
 
 receive-held : (x : Copy) (t : Tree) (w : World) → tree_of x.frame.tree w.trees ≡ This t → is_in x.frame.tree (w.holds x.at) ≡ true →
     receive false rules x (tree_of x.frame.tree w.trees) w ≡ forward false rules x t w
@@ -94,18 +94,18 @@ handled-same n way came x tick flying next = λ j. record {
 -- what a bridge refuses changes nothing
 refused : (n : Network) (f : Fault) (b : ℕ) (x : Copy) (tick : ℕ) (flying : List Copy) (next : ℕ) → handled n (Refuse f) (ByBridge b) x tick flying next ≡ with_flying flying next n
 refused n f b x tick flying next = λ j. record {
-  bridge = (bridge-same n x.at j).bridge;
+  bridge = (bridge_same n x.at j).bridge;
   plug = n.plug;
   trees = n.trees;
-  flying = sent-refused (goes (Refuse f) (n.bridge x.at) x.frame.colour (ByBridge b) x.frame.to) (ports_of (n.bridge x.at).ports) x (λ p. refl) 128 j ++ flying;
-  got = none-get n x b (goes (Refuse f) (n.bridge x.at) x.frame.colour (ByBridge b) x.frame.to) (λ p. refl) (2 ^ 60) j ++ n.got;
+  flying = sent_refused (goes (Refuse f) (n.bridge x.at) x.frame.colour (ByBridge b) x.frame.to) (ports_of (n.bridge x.at).ports) x (λ p. refl) 128 j ++ flying;
+  got = none_get n x b (goes (Refuse f) (n.bridge x.at) x.frame.colour (ByBridge b) x.frame.to) (λ p. refl) (2 ^ 60) j ++ n.got;
   next = next;
 }
 
 -- a copy arrives
 module _ (n : Network) (w : World) (j tick : ℕ) (x : Copy) (i : Simulates n w) (k : Steady n) (e : pick j n.flying ≡ One x) where
   fl : Flies x
-  fl = k.flies x (pick-mem j n.flying x e)
+  fl = k.flies x (pick_mem j n.flying x e)
 
   abbrev n₀ : Network
   n₀ = with_flying (without j n.flying) n.next n
@@ -126,14 +126,14 @@ module _ (n : Network) (w : World) (j tick : ℕ) (x : Copy) (i : Simulates n w)
     next_so = i.next_so;
   }
 
-  arrive-so : happen false rules (Arrive j) w ≡ receive false rules x (tree_of x.frame.tree w.trees) w₀
-  arrive-so = arrives-pick j w.copies x w₀ (subst (λ ys. pick j ys ≡ One x) i.flying_so e)
+  arrive_so : happen false rules (Arrive j) w ≡ receive false rules x (tree_of x.frame.tree w.trees) w₀
+  arrive_so = arrives-pick j w.copies x w₀ (subst (λ ys. pick j ys ≡ One x) i.flying_so e)
 
   held_so : is_in x.frame.tree (w.holds x.at) ≡ (is_tree x.frame.tree (n.bridge x.at).newest.tree || is_tree x.frame.tree (n.bridge x.at).older.tree)
-  held_so = ap (is_in x.frame.tree) (sym (i.holds_so x.at fl.inside)) ∙ holds-either x.frame.tree (n.bridge x.at).newest.tree (n.bridge x.at).older.tree
+  held_so = ap (is_in x.frame.tree) (sym (i.holds_so x.at fl.inside)) ∙ holds_either x.frame.tree (n.bridge x.at).newest.tree (n.bridge x.at).older.tree
 
-  from-so : where_is x.at (n.plug x.frame.from) (sender (came_from x.trail)) ≡ came_by x.trail
-  from-so = subst (λ bs. where_is x.at (n.plug x.frame.from) (sender (came_from bs)) ≡ came_by bs) (sym fl.is) refl
+  from_so : where_is x.at (n.plug x.frame.from) (sender (came_from x.trail)) ≡ came_by x.trail
+  from_so = subst (λ bs. where_is x.at (n.plug x.frame.from) (sender (came_from bs)) ≡ came_by bs) (sym fl.is) refl
 
   abbrev ComesTo : Way → Type 0
   ComesTo way = (fs : List Event) × Simulates (handled n way (came_from x.trail) x tick (without j n.flying) n.next) (follow fs w)
@@ -145,7 +145,7 @@ module _ (n : Network) (w : World) (j tick : ℕ) (x : Copy) (i : Simulates n w)
   taken way t known held s = (
     s.0 ++ (Arrive j ∷ []),
     subst (λ u. Simulates (handled n way (came_from x.trail) x tick (without j n.flying) n.next) u)
-        (sym (follow-append s.0 (Arrive j ∷ []) w ∙ ap (follow s.0) (arrive-so ∙ receive-held x t w₀ known held)))
+        (sym (follow-append s.0 (Arrive j ∷ []) w ∙ ap (follow s.0) (arrive_so ∙ receive-held x t w₀ known held)))
         (subst (λ m. Simulates m (follow s.0 (forward false rules x t w₀))) (handled-same n way (came_from x.trail) x tick (without j n.flying) n.next) s.1),
   )
 
@@ -155,15 +155,15 @@ module _ (n : Network) (w : World) (j tick : ℕ) (x : Copy) (i : Simulates n w)
   dropped f h = (
     Arrive j ∷ [],
     subst (λ u. Simulates (handled n (Refuse f) (came_from x.trail) x tick (without j n.flying) n.next) u)
-        (sym (arrive-so ∙ receive-refused x (tree_of x.frame.tree w.trees) w₀ h))
+        (sym (arrive_so ∙ receive-refused x (tree_of x.frame.tree w.trees) w₀ h))
         (subst (λ bs. Simulates (handled n (Refuse f) (came_from bs) x tick (without j n.flying) n.next) w₀) (sym fl.is)
         (subst (λ m. Simulates m w₀) (sym (refused n f fl.last x tick (without j n.flying) n.next)) i₀)),
   )
 
   pub coming : ComesTo (track_of (n.bridge x.at) x.frame.tree)
   coming = cond_both (none (n.bridge x.at).newest.tree) _ _ ComesTo (λ h. dropped fault.NoTree (held_so ∙ nothing (n.bridge x.at).newest.tree (n.bridge x.at).older.tree h ((k.kept x.at).older-last h)))
-      (λ _. cond_both (is_tree x.frame.tree (n.bridge x.at).newest.tree) _ _ ComesTo (λ h. newest h (tree-of x.frame.tree (n.bridge x.at).newest.tree h))
-      (λ d. cond_both (is_tree x.frame.tree (n.bridge x.at).older.tree) _ _ ComesTo (λ h. older d h (tree-of x.frame.tree (n.bridge x.at).older.tree h))
+      (λ _. cond_both (is_tree x.frame.tree (n.bridge x.at).newest.tree) _ _ ComesTo (λ h. newest h (tree_of_lem x.frame.tree (n.bridge x.at).newest.tree h))
+      (λ d. cond_both (is_tree x.frame.tree (n.bridge x.at).older.tree) _ _ ComesTo (λ h. older d h (tree_of_lem x.frame.tree (n.bridge x.at).older.tree h))
       (λ h. dropped fault.UnknownTree (held_so ∙ or_from _ _ d h))))
     where
       nothing : (a b : Found) → none a ≡ true → none b ≡ true → (is_tree x.frame.tree a || is_tree x.frame.tree b) ≡ false
@@ -172,12 +172,12 @@ module _ (n : Network) (w : World) (j tick : ℕ) (x : Copy) (i : Simulates n w)
       nothing (This t) b h o = absurd (grind arith)
 
       newest : is_tree x.frame.tree (n.bridge x.at).newest.tree ≡ true → (t : Tree) × ((n.bridge x.at).newest.tree ≡ This t) × (t.number ≡ x.frame.tree) → ComesTo Newest
-      newest h a = taken Newest a.0 (subst (λ u. tree_of u w.trees ≡ This a.0) a.2 (announced-newest n w x.at a.0 fl.inside i a.1)) (held_so ∙ or_left _ _ h)
-          (along-newest n₀ w₀ x a.0 (came_from x.trail) tick fl.inside i₀ (k.kept x.at).numbered a.2 (back-so x.trail) from-so a.1)
+      newest h a = taken Newest a.0 (subst (λ u. tree_of u w.trees ≡ This a.0) a.2 (announced_newest n w x.at a.0 fl.inside i a.1)) (held_so ∙ or_left _ _ h)
+          (along_newest n₀ w₀ x a.0 (came_from x.trail) tick fl.inside i₀ (k.kept x.at).numbered a.2 (back_so x.trail) from_so a.1)
 
       older : is_tree x.frame.tree (n.bridge x.at).newest.tree ≡ false → is_tree x.frame.tree (n.bridge x.at).older.tree ≡ true → (t : Tree) × ((n.bridge x.at).older.tree ≡ This t) × (t.number ≡ x.frame.tree) → ComesTo Older
-      older d h a = taken Older a.0 (subst (λ u. tree_of u w.trees ≡ This a.0) a.2 (announced-older n w x.at a.0 fl.inside i a.1)) (held_so ∙ or_right _ _ h)
-          (along-older n₀ w₀ x a.0 (came_from x.trail) tick fl.inside i₀ (k.kept x.at).numbered a.2 (back-so x.trail) from-so d a.1)
+      older d h a = taken Older a.0 (subst (λ u. tree_of u w.trees ≡ This a.0) a.2 (announced_older n w x.at a.0 fl.inside i a.1)) (held_so ∙ or_right _ _ h)
+          (along_older n₀ w₀ x a.0 (came_from x.trail) tick fl.inside i₀ (k.kept x.at).numbered a.2 (back_so x.trail) from_so d a.1)
 
 -- a station's frame is a new copy at its bridge
 abbrev first_of : World → ℕ → ℕ → ℕ → ℕ → Copy
@@ -186,9 +186,9 @@ first_of w q to b t = record { frame = record { number = w.next; from = q; to = 
 abbrev with_new : Copy → World → World
 with_new x w = record { home = w.home; up = w.up; trees = w.trees; holds = w.holds; learned = w.learned; copies = x ∷ w.copies; got = w.got; next = suc w.next }
 
-send-made : (w : World) (q to b t : ℕ) (ns : List ℕ) → w.home q ≡ b → b < 128 → q < 2 ^ 60 → to < 2 ^ 60 → w.holds b ≡ t ∷ ns → happen false rules (Send q to) w ≡ with_new (first_of w q to b t) w
+send_made : (w : World) (q to b t : ℕ) (ns : List ℕ) → w.home q ≡ b → b < 128 → q < 2 ^ 60 → to < 2 ^ 60 → w.holds b ≡ t ∷ ns → happen false rules (Send q to) w ≡ with_new (first_of w q to b t) w
 unfolding send_by
-send-made w q to b t ns home lb lq lto holds = rw (home, lt-ltb b 128 lb, lt-ltb q (2 ^ 60) lq, lt-ltb to (2 ^ 60) lto, holds)
+send_made w q to b t ns home lb lq lto holds = rw (home, lt-ltb b 128 lb, lt-ltb q (2 ^ 60) lq, lt-ltb to (2 ^ 60) lto, holds)
     (ap (λ c. with_new (first_of w q to c t) w) home)
 
 module _ (n : Network) (w : World) (q to tick : ℕ) (i : Simulates n w) (k : Steady n) (inside : (n.plug q).bridge < 128) (here : is_here n (n.plug q).bridge q ≡ true) (lq : q < 2 ^ 60) (lto : to < 2 ^ 60)
@@ -221,29 +221,29 @@ module _ (n : Network) (w : World) (q to tick : ℕ) (i : Simulates n w) (k : St
   home_so : w.home q ≡ b
   home_so = sym (i.home_so q) ∙ rw (lt-ltb b 128 inside, here)
 
-  along-it : t.number ≡ x.frame.tree
-  along-it = sym (ap number_of_newest its)
+  along_it : t.number ≡ x.frame.tree
+  along_it = sym (ap number_of_newest its)
 
-  its-first : (tree : Found) → tree ≡ This t → (older : Found) → numbers (tree_in tree ++ tree_in older) ≡ t.number ∷ numbers (tree_in older)
+  its_first : (tree : Found) → tree ≡ This t → (older : Found) → numbers (tree_in tree ++ tree_in older) ≡ t.number ∷ numbers (tree_in older)
   unfolding numbers
-  its-first tree h older = subst (λ f. numbers (tree_in f ++ tree_in older) ≡ t.number ∷ numbers (tree_in older)) (sym h) refl
+  its_first tree h older = subst (λ f. numbers (tree_in f ++ tree_in older) ≡ t.number ∷ numbers (tree_in older)) (sym h) refl
 
   holds_so : w.holds b ≡ t.number ∷ numbers (tree_in (n.bridge b).older.tree)
-  holds_so = sym (i.holds_so b inside) ∙ its-first (n.bridge b).newest.tree its (n.bridge b).older.tree
+  holds_so = sym (i.holds_so b inside) ∙ its_first (n.bridge b).newest.tree its (n.bridge b).older.tree
 
-  number-so : w.next ≡ n.next
-  number-so = sym i.next_so
+  number_so : w.next ≡ n.next
+  number_so = sym i.next_so
 
   sent : happen false rules (Send q to) w ≡ with_new x w
-  sent = send-made w q to b t.number (numbers (tree_in (n.bridge b).older.tree)) home_so inside lq lto holds_so ∙
-      (λ j. with_new (record { frame = record { number = number-so j; from = q; to = to; colour = vlan_of q; tree = along-it j }; at = b; trail = [] }) w)
+  sent = send_made w q to b t.number (numbers (tree_in (n.bridge b).older.tree)) home_so inside lq lto holds_so ∙
+      (λ j. with_new (record { frame = record { number = number_so j; from = q; to = to; colour = vlan_of q; tree = along_it j }; at = b; trail = [] }) w)
 
   known : tree_of x.frame.tree w.trees ≡ This t
-  known = subst (λ u. tree_of u w.trees ≡ This t) along-it (announced-newest n w b t inside i its)
+  known = subst (λ u. tree_of u w.trees ≡ This t) along_it (announced_newest n w b t inside i its)
 
   held : is_in x.frame.tree (w.holds b) ≡ true
   unfolding is_in
-  held = rw holds_so (or_left _ _ (eq-eqb t.number x.frame.tree along-it))
+  held = rw holds_so (or_left _ _ (eq-eqb t.number x.frame.tree along_it))
 
   arrived : happen false rules (Arrive 0) (with_new x w) ≡ forward false rules x t w₁
   unfolding arrives without
@@ -259,4 +259,4 @@ module _ (n : Network) (w : World) (q to tick : ℕ) (i : Simulates n w) (k : St
   )
     where
       s : (fs : List Event) × Simulates (handled n₁ Newest (ByPort (n.plug q).port) x tick n₁.flying n₁.next) (follow fs (forward false rules x t w₁))
-      s = along-newest n₁ w₁ x t (ByPort (n.plug q).port) tick inside i₁ (k.kept b).numbered along-it (λ c. refl) (rw (eq-eqb b b refl, eq-eqb (n.plug q).port (n.plug q).port refl)) its
+      s = along_newest n₁ w₁ x t (ByPort (n.plug q).port) tick inside i₁ (k.kept b).numbered along_it (λ c. refl) (rw (eq-eqb b b refl, eq-eqb (n.plug q).port (n.plug q).port refl)) its

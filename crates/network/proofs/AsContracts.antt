@@ -27,34 +27,34 @@ serves-inside ports p v h = elim (dec_lt p (length ports)) [
   | no ge ↦ absurd (let e : get_or ports p Unused ≡ Unused = get_or_past ports p Unused (omega arith) in let z : serves (kind_of Unused) v ≡ true = subst (λ k. serves (kind_of k) v ≡ true) e h in grind arith)
 ]
 
-station-way : (s : State) (port v : ℕ) (from : List ℕ) → length s.ports ≡ 16 → group_address from ≡ false → serves (ports_of s.ports port) v ≡ true → none s.newest.tree ≡ false → station_way s port from ≡ Newest
-station-way s port v from l g h n =
+station_way_lem : (s : State) (port v : ℕ) (from : List ℕ) → length s.ports ≡ 16 → group_address from ≡ false → serves (ports_of s.ports port) v ≡ true → none s.newest.tree ≡ false → station_way s port from ≡ Newest
+station_way_lem s port v from l g h n =
     let lt : port < 16 = subst (λ m. port < m) l (serves-inside s.ports port v h) in rw (g, lt-ltb port 16 lt, (serves-vlan (get_or s.ports port Unused) v h).1, n)
 
-sends-as-contract : SendsAsContract
-sends-as-contract s s' port q d tick from to r l g h f e n c =
+sends_as_contract : SendsAsContract
+sends_as_contract s s' port q d tick from to r l g h f e n c =
     subst (λ u. (s' ≡ after Newest (locate (ByPort port)) u d tick s) × Answers Newest s' (vlan_of q) (ByPort port) d r) f
     (subst (λ u. (s' ≡ after Newest (locate (ByPort port)) (station_number from (vlan_of q)) u tick s) × Answers Newest s' (vlan_of q) (ByPort port) u r) e
     (subst (λ v. (s' ≡ after Newest (locate (ByPort port)) (station_number from v) (station_number to v) tick s) × Answers Newest s' v (ByPort port) (station_number to v) r)
     (serves-vlan (get_or s.ports port Unused) (vlan_of q) h).0
     (subst (λ w. (s' ≡ after w (locate (ByPort port)) (station_number from (vlan_at (ports_of s.ports port))) (station_number to (vlan_at (ports_of s.ports port))) tick s) × Answers w s' (vlan_at (ports_of s.ports port)) (ByPort port) (station_number to (vlan_at (ports_of s.ports port))) r)
-    (station-way s port (vlan_of q) from l g h n) (c.after_it, c.answer))))
+    (station_way_lem s port (vlan_of q) from l g h n) (c.after_it, c.answer))))
 
-neighbour-way : (s : State) (tree : ℕ) (from : List ℕ) → group_address from ≡ false → neighbour_way s s.number tree from ≡ track_of s tree
-neighbour-way s tree from g = rw (g, eq-eqb s.number s.number refl)
+neighbour_way_lem : (s : State) (tree : ℕ) (from : List ℕ) → group_address from ≡ false → neighbour_way s s.number tree from ≡ track_of s tree
+neighbour_way_lem s tree from g = rw (g, eq-eqb s.number s.number refl)
 
-comes-as-contract : ComesAsContract
-comes-as-contract s s' by tree q d tick from to r g f e c =
+comes_as_contract : ComesAsContract
+comes_as_contract s s' by tree q d tick from to r g f e c =
     subst (λ u. (s' ≡ after (track_of s tree) (locate (ByBridge by)) u d tick s) × Answers (track_of s tree) s' (vlan_of q) (ByBridge by) d r) f
     (subst (λ u. (s' ≡ after (track_of s tree) (locate (ByBridge by)) (station_number from (vlan_of q)) u tick s) × Answers (track_of s tree) s' (vlan_of q) (ByBridge by) u r) e
     (subst (λ w. (s' ≡ after w (locate (ByBridge by)) (station_number from (vlan_of q)) (station_number to (vlan_of q)) tick s) × Answers w s' (vlan_of q) (ByBridge by) (station_number to (vlan_of q)) r)
-    (neighbour-way s tree from g) (c.after_it, c.answer)))
+    (neighbour_way_lem s tree from g) (c.after_it, c.answer)))
 
-stations-have-numbers : StationsHaveNumbers
+stations_have_numbers : StationsHaveNumbers
 unfolding address_number
-stations-have-numbers a v h l =
+stations_have_numbers a v h l =
     let h0 = h 0 (omega arith) in let h1 = h 1 (omega arith) in let h2 = h 2 (omega arith) in let h3 = h 3 (omega arith) in let h4 = h 4 (omega arith) in let h5 = h 5 (omega arith) in
     (omega arith, omega arith)
 
-pub as-contracts : AsContracts
-as-contracts = record { sends_so = sends-as-contract; comes_so = comes-as-contract; stations_so = stations-have-numbers }
+pub as_contracts : AsContracts
+as_contracts = record { sends_so = sends_as_contract; comes_so = comes_as_contract; stations_so = stations_have_numbers }

@@ -16,20 +16,20 @@ use Rattle.forwarding.specs.State.{Slot, State, is_tree, look_in, heard_in, goes
 use Rattle.forwarding.specs.Replies.{Way, Newest, Older, after, goes}
 use Rattle.network.specs.Network.{Network, rules, sent_on, getters, locate, handled}
 use Rattle.network.specs.Simulation.{place_in, where_is, home_of, Simulates}
-use Rattle.network.proofs.Tests.{by-test}
+use Rattle.network.proofs.Tests.{by_test}
 use Rattle.network.proofs.Tables.{look, look-put, learned-fades, learned-keeps}
 use Rattle.network.proofs.Worlds.{follow}
-use Rattle.network.proofs.Onward.{none-beyond, sent-so}
+use Rattle.network.proofs.Onward.{none_beyond, sent_so}
 use Rattle.network.proofs.Handing.{getters-so}
-use Rattle.network.proofs.Standing.{Stands, stands, with_bridge, bridge-same, whole, homes-stay}
+use Rattle.network.proofs.Standing.{Stands, stands, with_bridge, bridge_same, whole, homes_stay}
 use Rattle.network.proofs.Learning.{with_tables, forgetting}
 
-pub place-came : (came : Came) → place_at (locate came) ≡ sender came
-place-came (ByPort p) = refl
-place-came (ByBridge b) = refl
+pub place_came : (came : Came) → place_at (locate came) ≡ sender came
+place_came (ByPort p) = refl
+place_came (ByBridge b) = refl
 
 module _ (n : Network) (w : World) (x : Copy) (t : Tree) (came : Came) (inside : x.at < 128) (i : Simulates n w)
-    (back : (c : ℕ) → not_to_bridge came c ≡ not_back x.trail c) (from-so : where_is x.at (n.plug x.frame.from) (sender came) ≡ came_by x.trail) where
+    (back : (c : ℕ) → not_to_bridge came c ≡ not_back x.trail c) (from_so : where_is x.at (n.plug x.frame.from) (sender came) ≡ came_by x.trail) where
   abbrev me : State
   me = n.bridge x.at
 
@@ -48,7 +48,7 @@ module _ (n : Network) (w : World) (x : Copy) (t : Tree) (came : Came) (inside :
   known_so : (k : Place) → k ≡ cond (eqb x.frame.to x.frame.from) (sender came) (place_in me x.frame.tree x.frame.to) →
       where_is x.at (n.plug x.frame.to) k ≡ goes_by false x (knows w x)
   known_so k e = ap (where_is x.at (n.plug x.frame.to)) e ∙ (elim (ℕ_discrete x.frame.to x.frame.from) [
-    | yes h ↦ rw (eq-eqb x.frame.to x.frame.from h, eq-eqb x.frame.from x.frame.to (sym h)) (subst (λ q. where_is x.at (n.plug q) (sender came) ≡ came_by x.trail) (sym h) from-so)
+    | yes h ↦ rw (eq-eqb x.frame.to x.frame.from h, eq-eqb x.frame.from x.frame.to (sym h)) (subst (λ q. where_is x.at (n.plug q) (sender came) ≡ came_by x.trail) (sym h) from_so)
     | no k ↦ rw (ne_eqb x.frame.to x.frame.from k, ne_eqb x.frame.from x.frame.to (λ h. k (sym h))) (i.learned_so x.at x.frame.tree x.frame.to inside)
   ])
 
@@ -60,16 +60,16 @@ module _ (n : Network) (w : World) (x : Copy) (t : Tree) (came : Came) (inside :
     here = record {
       holds_so = old.holds_so;
       held_so = old.held_so;
-      learned_so = λ u q. rw (eq-eqb x.at x.at refl, place u q) (by-test (eqb u x.frame.tree && eqb q x.frame.from)
+      learned_so = λ u q. rw (eq-eqb x.at x.at refl, place u q) (by_test (eqb u x.frame.tree && eqb q x.frame.from)
           (λ v. where_is x.at (n.plug q) (cond v (sender came) (place_in me u q)) ≡ cond v (came_by x.trail) (w.learned x.at u q))
-          (λ e. subst (λ q. where_is x.at (n.plug q) (sender came) ≡ came_by x.trail) (sym (same u q e)) from-so) (λ _. old.learned_so u q));
+          (λ e. subst (λ q. where_is x.at (n.plug q) (sender came) ≡ came_by x.trail) (sym (same u q e)) from_so) (λ _. old.learned_so u q));
       links_so = old.links_so;
     };
     others = λ e l h. let o = stands n w i e l in
         record { holds_so = o.holds_so; held_so = o.held_so; learned_so = λ u q. rw (ne_eqb e x.at h) (o.learned_so u q); links_so = o.links_so };
-    home_so = λ q. homes-stay n x.at me (with_tables me c d) (λ p u. refl) q ∙ (ap (λ m. home_of m q) (bridge-same n x.at) ∙ i.home_so q);
+    home_so = λ q. homes_stay n x.at me (with_tables me c d) (λ p u. refl) q ∙ (ap (λ m. home_of m q) (bridge_same n x.at) ∙ i.home_so q);
     trees_so = i.trees_so;
-    flying_so = λ j. (sent-so (ports_of me.ports) t w.up x x.frame.colour came out back old.links_so beyond k (n.plug x.frame.to) outs ∙
+    flying_so = λ j. (sent_so (ports_of me.ports) t w.up x x.frame.colour came out back old.links_so beyond k (n.plug x.frame.to) outs ∙
         ap (λ v. toward t w.up x v 128) (known_so k known)) j ++ i.flying_so j;
     got_so = λ j. (getters-so n w x t came out inside i.home_so k outs (2 ^ 60) ∙ ap (λ v. handed false rules w x v (2 ^ 60)) (known_so k known)) j ++ i.got_so j;
     next_so = i.next_so;
@@ -82,7 +82,7 @@ module _ (n : Network) (w : World) (x : Copy) (t : Tree) (came : Came) (inside :
       same u q e = grind (arith, nat_tests)
 
       beyond : (c : ℕ) → 128 ≤ c → w.up x.at c ≡ false
-      beyond c ge = sym (old.links_so c) ∙ ap not (none-beyond me.ports c 16 ge)
+      beyond c ge = sym (old.links_so c) ∙ ap not (none_beyond me.ports c 16 ge)
 
 -- what was learnt along the newest tree, or along the older one
 heard-newest : (m e f : Bool) (s p r : Place) → m ≡ e → cond m (cond f s p) r ≡ cond (e && f) s (cond m p r)
@@ -110,10 +110,10 @@ module _ (from to tick : ℕ) (came : Came) where
   noted slot = record { entries = put (entry slot) slot.table.entries; heard = next slot.table.heard }
 
   noted-look : (slot : Slot) (q : ℕ) → look (put (entry slot) slot.table.entries) q ≡ cond (eqb q from) (sender came) (look_in slot q)
-  noted-look slot q = look-put (entry slot) slot.table.entries q ∙ ap (λ p. cond (eqb q from) p (look_in slot q)) (place-came came)
+  noted-look slot q = look-put (entry slot) slot.table.entries q ∙ ap (λ p. cond (eqb q from) p (look_in slot q)) (place_came came)
 
   heard-look : (slot : Slot) → look_in (heard_in (locate came) from to tick slot) to ≡ cond (eqb to from) (sender came) (look_in slot to)
-  heard-look slot = learned-keeps (entry slot) to slot.table.entries ∙ ap (λ p. cond (eqb to from) p (look_in slot to)) (place-came came)
+  heard-look slot = learned-keeps (entry slot) to slot.table.entries ∙ ap (λ p. cond (eqb to from) p (look_in slot to)) (place_came came)
 
   -- along its newest tree, and along its older one
   pub noted-newest : (s : State) (tree : ℕ) → ((u : ℕ) → is_tree u s.newest.tree ≡ eqb u tree) →
@@ -130,15 +130,15 @@ module _ (from to tick : ℕ) (came : Came) where
       other e = let q : u ≡ tree = grind (arith, nat_tests) in subst (λ v. is_tree v s.newest.tree ≡ false) (sym q) d
 
 module _ (n : Network) (w : World) (x : Copy) (t : Tree) (came : Came) (tick : ℕ) (inside : x.at < 128) (i : Simulates n w) (numbered : (n.bridge x.at).number ≡ x.at) (along : t.number ≡ x.frame.tree)
-    (back : (c : ℕ) → not_to_bridge came c ≡ not_back x.trail c) (from-so : where_is x.at (n.plug x.frame.from) (sender came) ≡ came_by x.trail) where
+    (back : (c : ℕ) → not_to_bridge came c ≡ not_back x.trail c) (from_so : where_is x.at (n.plug x.frame.from) (sender came) ≡ came_by x.trail) where
   abbrev bridge : State
   bridge = n.bridge x.at
 
-  is-its : (u : ℕ) (tree : Found) → tree ≡ This t → is_tree u tree ≡ eqb u x.frame.tree
-  is-its u tree h = is_tree_lem u tree t h ∙ ap (eqb u) along
+  is_its : (u : ℕ) (tree : Found) → tree ≡ This t → is_tree u tree ≡ eqb u x.frame.tree
+  is_its u tree h = is_tree_lem u tree t h ∙ ap (eqb u) along
 
   its : (tree : Found) → tree ≡ This t → is_tree x.frame.tree tree ≡ true
-  its tree h = is-its x.frame.tree tree h ∙ eq-eqb x.frame.tree x.frame.tree refl
+  its tree h = is_its x.frame.tree tree h ∙ eq-eqb x.frame.tree x.frame.tree refl
 
   outs : (tree : Found) → tree ≡ This t → (k : Place) (p : ℕ) →
       goes_out (ports_of bridge.ports) bridge.number tree x.frame.colour came k p ≡ out_by (ports_of bridge.ports) x.at t x.frame.colour came k p
@@ -154,19 +154,19 @@ module _ (n : Network) (w : World) (x : Copy) (t : Tree) (came : Came) (tick : �
   note slot = noted x.frame.from x.frame.to tick came slot
 
   -- along the newest tree
-  pub along-newest : bridge.newest.tree ≡ This t → (fs : List Event) × Simulates (handled n Newest came x tick n.flying n.next) (follow fs (forward false rules x t w))
-  along-newest h = forgetting (gone_on n w x t came inside i back from-so (out Newest) (look_in (heard bridge.newest) x.frame.to)) x.at (with_tables bridge (note bridge.newest) bridge.older.table) (heard bridge.newest).table bridge.older.table
+  pub along_newest : bridge.newest.tree ≡ This t → (fs : List Event) × Simulates (handled n Newest came x tick n.flying n.next) (follow fs (forward false rules x t w))
+  along_newest h = forgetting (gone_on n w x t came inside i back from_so (out Newest) (look_in (heard bridge.newest) x.frame.to)) x.at (with_tables bridge (note bridge.newest) bridge.older.table) (heard bridge.newest).table bridge.older.table
       (forward false rules x t w) inside (λ q. learned-fades (entry x.frame.from x.frame.to tick came bridge.newest) x.frame.to bridge.newest.table.entries q) (λ q. inl refl)
-      (forwarding n w x t came inside i back from-so (note bridge.newest) bridge.older.table (look_in (heard bridge.newest) x.frame.to) (out Newest)
-      (noted-newest x.frame.from x.frame.to tick came bridge x.frame.tree (λ u. is-its u bridge.newest.tree h))
+      (forwarding n w x t came inside i back from_so (note bridge.newest) bridge.older.table (look_in (heard bridge.newest) x.frame.to) (out Newest)
+      (noted-newest x.frame.from x.frame.to tick came bridge x.frame.tree (λ u. is_its u bridge.newest.tree h))
       (heard-look x.frame.from x.frame.to tick came bridge.newest ∙ rw (its bridge.newest.tree h))
       (outs bridge.newest.tree h (look_in (heard bridge.newest) x.frame.to)))
 
   -- along the older one
-  pub along-older : is_tree x.frame.tree bridge.newest.tree ≡ false → bridge.older.tree ≡ This t → (fs : List Event) × Simulates (handled n Older came x tick n.flying n.next) (follow fs (forward false rules x t w))
-  along-older d h = forgetting (gone_on n w x t came inside i back from-so (out Older) (look_in (heard bridge.older) x.frame.to)) x.at (with_tables bridge bridge.newest.table (note bridge.older)) bridge.newest.table (heard bridge.older).table
+  pub along_older : is_tree x.frame.tree bridge.newest.tree ≡ false → bridge.older.tree ≡ This t → (fs : List Event) × Simulates (handled n Older came x tick n.flying n.next) (follow fs (forward false rules x t w))
+  along_older d h = forgetting (gone_on n w x t came inside i back from_so (out Older) (look_in (heard bridge.older) x.frame.to)) x.at (with_tables bridge bridge.newest.table (note bridge.older)) bridge.newest.table (heard bridge.older).table
       (forward false rules x t w) inside (λ q. inl refl) (λ q. learned-fades (entry x.frame.from x.frame.to tick came bridge.older) x.frame.to bridge.older.table.entries q)
-      (forwarding n w x t came inside i back from-so bridge.newest.table (note bridge.older) (look_in (heard bridge.older) x.frame.to) (out Older)
-      (noted-older x.frame.from x.frame.to tick came bridge x.frame.tree (λ u. is-its u bridge.older.tree h) d)
+      (forwarding n w x t came inside i back from_so bridge.newest.table (note bridge.older) (look_in (heard bridge.older) x.frame.to) (out Older)
+      (noted-older x.frame.from x.frame.to tick came bridge x.frame.tree (λ u. is_its u bridge.older.tree h) d)
       (heard-look x.frame.from x.frame.to tick came bridge.older ∙ rw (d, its bridge.older.tree h))
       (outs bridge.older.tree h (look_in (heard bridge.older) x.frame.to)))

@@ -12,10 +12,10 @@ use Rattle.ports.specs.Places.{Place, Nowhere, AtPort, Toward}
 use Rattle.forwarding.specs.State.{Slot, State, is_tree, look_in}
 use Rattle.network.specs.Network.{Network, Plug}
 use Rattle.network.specs.Simulation.{place_in, where_is, Simulates}
-use Rattle.network.proofs.Tests.{by-test}
+use Rattle.network.proofs.Tests.{by_test}
 use Rattle.network.proofs.Tables.{look, found, Fades, nowhere, gone, gone-so}
-use Rattle.network.proofs.Worlds.{follow, follow-append, relearnt, forgets_in, forgot_in, forgets-so}
-use Rattle.network.proofs.Standing.{with_bridge, View, view, whole, homes-stay}
+use Rattle.network.proofs.Worlds.{follow, follow-append, relearnt, forgets_in, forgot_in, forgets_so}
+use Rattle.network.proofs.Standing.{with_bridge, View, view, whole, homes_stay}
 
 -- a bridge with other tables
 abbrev pub with_tables : State → Contents → Contents → State
@@ -30,15 +30,15 @@ placed-fades true o p r p' r' f g = f
 placed-fades false true p r p' r' f g = g
 placed-fades false false p r p' r' f g = inl refl
 
-none-forgotten : (m o i j : Bool) (k : Where) → cond (m && (false && i)) Unknown (cond (o && (false && j)) Unknown k) ≡ k
-none-forgotten m o i j k = grind (arith, nat_tests)
+none_forgotten : (m o i j : Bool) (k : Where) → cond (m && (false && i)) Unknown (cond (o && (false && j)) Unknown k) ≡ k
+none_forgotten m o i j k = grind (arith, nat_tests)
 
 -- of one station: what is gone is forgotten, and nothing else
 forgotten : (m o i j : Bool) (p r new : Place) (b : ℕ) (pl : Plug) (k : Where) → Fades (placed m o p r) new → (i ≡ false → p ≡ Nowhere) → (j ≡ false → r ≡ Nowhere) →
     where_is b pl (placed m o p r) ≡ k → where_is b pl new ≡ cond (m && (nowhere new && i)) Unknown (cond (o && (nowhere new && j)) Unknown k)
-forgotten m o i j p r (AtPort a) b pl k (inl e) f g h = ap (where_is b pl) e ∙ (h ∙ sym (none-forgotten m o i j k))
+forgotten m o i j p r (AtPort a) b pl k (inl e) f g h = ap (where_is b pl) e ∙ (h ∙ sym (none_forgotten m o i j k))
 forgotten m o i j p r (AtPort a) b pl k (inr e) f g h = absurd (grind arith)
-forgotten m o i j p r (Toward c) b pl k (inl e) f g h = ap (where_is b pl) e ∙ (h ∙ sym (none-forgotten m o i j k))
+forgotten m o i j p r (Toward c) b pl k (inl e) f g h = ap (where_is b pl) e ∙ (h ∙ sym (none_forgotten m o i j k))
 forgotten m o i j p r (Toward c) b pl k (inr e) f g h = absurd (grind arith)
 forgotten m o i j p r Nowhere b pl k e f g h = none m o i j f g h
   where
@@ -76,7 +76,7 @@ module _ (s : State) (new : ℕ → ℕ → Place) where
 
   gone-test : (slot : Slot) (t q : ℕ) → (is_tree t slot.tree && is_in q (gone_from slot)) ≡ (is_tree t slot.tree && (nowhere (new t q) && is_some (find q slot.table.entries)))
   unfolding gone_from
-  gone-test slot t q = by-test (is_tree t slot.tree) (λ v. (v && is_in q (gone_from slot)) ≡ (v && (nowhere (new t q) && is_some (find q slot.table.entries))))
+  gone-test slot t q = by_test (is_tree t slot.tree) (λ v. (v && is_in q (gone_from slot)) ≡ (v && (nowhere (new t q) && is_some (find q slot.table.entries))))
       (λ e. subst (λ k. is_in q (gone_from slot) ≡ (nowhere (new k q) && is_some (find q slot.table.entries))) (is_number t slot.tree e)
       (gone-so (new (number_in slot.tree)) slot.table.entries q)) (λ _. refl)
 
@@ -99,18 +99,18 @@ module _ (n : Network) (b : ℕ) (s : State) (c d : Contents) where
   forgets : List Event
   forgets = forgets_in b s.newest.tree (goes s.newest) ++ forgets_in b s.older.tree (goes s.older)
 
-  forgets-world : (w : World) → follow forgets w ≡ relearnt (forgot_in b s.newest.tree (goes s.newest) (forgot_in b s.older.tree (goes s.older) w.learned)) w
+  forgets_world : (w : World) → follow forgets w ≡ relearnt (forgot_in b s.newest.tree (goes s.newest) (forgot_in b s.older.tree (goes s.older) w.learned)) w
   unfolding forgets
-  forgets-world w = follow-append (forgets_in b s.newest.tree (goes s.newest)) _ w ∙
-      (ap (follow (forgets_in b s.newest.tree (goes s.newest))) (forgets-so b s.older.tree (goes s.older) w) ∙
-      forgets-so b s.newest.tree (goes s.newest) (relearnt (forgot_in b s.older.tree (goes s.older) w.learned) w))
+  forgets_world w = follow-append (forgets_in b s.newest.tree (goes s.newest)) _ w ∙
+      (ap (follow (forgets_in b s.newest.tree (goes s.newest))) (forgets_so b s.older.tree (goes s.older) w) ∙
+      forgets_so b s.newest.tree (goes s.newest) (relearnt (forgot_in b s.older.tree (goes s.older) w.learned) w))
 
   -- a bridge's tables fade: it forgets
   pub forgetting : (w : World) → b < 128 → ((q : ℕ) → Fades (look_in s.newest q) (look c.entries q)) → ((q : ℕ) → Fades (look_in s.older q) (look d.entries q)) →
       Simulates (with_bridge n b s) w → (fs : List Event) × Simulates (with_bridge n b (with_tables s c d)) (follow fs w)
   forgetting w lt f g i = (
     forgets,
-    subst (λ u. Simulates (with_bridge n b (with_tables s c d)) u) (sym (forgets-world w)) (whole n b (with_tables s c d) _ (record {
+    subst (λ u. Simulates (with_bridge n b (with_tables s c d)) u) (sym (forgets_world w)) (whole n b (with_tables s c d) _ (record {
       here = record {
         holds_so = v.here.holds_so;
         held_so = v.here.held_so;
@@ -123,7 +123,7 @@ module _ (n : Network) (b : ℕ) (s : State) (c d : Contents) where
         learned_so = λ t q. rw (ne_eqb e b k) ((v.others e l k).learned_so t q);
         links_so = (v.others e l k).links_so;
       };
-      home_so = λ q. homes-stay n b s (with_tables s c d) (λ p u. refl) q ∙ v.home_so q;
+      home_so = λ q. homes_stay n b s (with_tables s c d) (λ p u. refl) q ∙ v.home_so q;
       trees_so = v.trees_so;
       flying_so = v.flying_so;
       got_so = v.got_so;

@@ -21,25 +21,25 @@ leads-below Unused c h = refl
 leads-below (Access v) c h = refl
 leads-below (Trunk l) c h = let lt = l.neighbour.ok in grind (arith, nat_tests)
 
-pub none-beyond : (ports : List Port) (c n : ℕ) → 128 ≤ c → none_below (ports_of ports) c n ≡ true
+pub none_beyond : (ports : List Port) (c n : ℕ) → 128 ≤ c → none_below (ports_of ports) c n ≡ true
 unfolding none_below
-none-beyond ports c zero h = refl
-none-beyond ports c (suc p) h = let l = leads-below (get_or ports p Unused) c h in let i = none-beyond ports c p h in grind (arith, nat_tests)
+none_beyond ports c zero h = refl
+none_beyond ports c (suc p) h = let l = leads-below (get_or ports p Unused) c h in let i = none_beyond ports c p h in grind (arith, nat_tests)
 
 -- a frame goes on by a port that leads to a neighbour if it may go there, and if no lower port does
-by-lowest : (H : ℕ → Bool) (port : ℕ → Kind) (a : Bool) (vlan c p : ℕ) (k : Kind) →
+by_lowest : (H : ℕ → Bool) (port : ℕ → Kind) (a : Bool) (vlan c p : ℕ) (k : Kind) →
     (((serves k vlan && a) || onward_by H port p k) && leads_to k c) ≡ (H c && (leads_to k c && none_below port c p))
-by-lowest H port a vlan c p Idle = grind (arith, nat_tests)
-by-lowest H port a vlan c p (ToStations v) = grind (arith, nat_tests)
-by-lowest H port a vlan c p (ToBridge d up) = elim (ℕ_discrete d c) [
+by_lowest H port a vlan c p Idle = grind (arith, nat_tests)
+by_lowest H port a vlan c p (ToStations v) = grind (arith, nat_tests)
+by_lowest H port a vlan c p (ToBridge d up) = elim (ℕ_discrete d c) [
   | yes q ↦ subst (λ d. ((H d && (up && none_below port d p)) && (up && eqb d c)) ≡ (H c && ((up && eqb d c) && none_below port c p))) (sym q) (grind (arith, nat_tests))
   | no k ↦ grind (arith, nat_tests)
 ]
 
-by-lowest-only : (H : ℕ → Bool) (port : ℕ → Kind) (c p : ℕ) (k : Kind) → (onward_by H port p k && leads_to k c) ≡ (H c && (leads_to k c && none_below port c p))
-by-lowest-only H port c p Idle = grind (arith, nat_tests)
-by-lowest-only H port c p (ToStations v) = grind (arith, nat_tests)
-by-lowest-only H port c p (ToBridge d up) = by-lowest H port true 0 c p (ToBridge d up)
+by_lowest_only : (H : ℕ → Bool) (port : ℕ → Kind) (c p : ℕ) (k : Kind) → (onward_by H port p k && leads_to k c) ≡ (H c && (leads_to k c && none_below port c p))
+by_lowest_only H port c p Idle = grind (arith, nat_tests)
+by_lowest_only H port c p (ToStations v) = grind (arith, nat_tests)
+by_lowest_only H port c p (ToBridge d up) = by_lowest H port true 0 c p (ToBridge d up)
 
 not-to-stations : (e a : Bool) (vlan c : ℕ) (k : Kind) → ((e && (serves k vlan && a)) && leads_to k c) ≡ false
 not-to-stations e a vlan c Idle = grind (arith, nat_tests)
@@ -52,11 +52,11 @@ goes_to me t came Nowhere c = may_go_to me t came c
 goes_to me t came (AtPort i) c = false
 goes_to me t came (Toward d) c = eqb d c && may_go_to me t came c
 
-out-leads : (port : ℕ → Kind) (me : ℕ) (t : Tree) (vlan : ℕ) (came : Came) (k : Place) (c p : ℕ) →
+out_leads : (port : ℕ → Kind) (me : ℕ) (t : Tree) (vlan : ℕ) (came : Came) (k : Place) (c p : ℕ) →
     (out_by port me t vlan came k p && leads_to (port p) c) ≡ (goes_to me t came k c && (leads_to (port p) c && none_below port c p))
-out-leads port me t vlan came Nowhere c p = by-lowest (may_go_to me t came) port (not_by_port came p) vlan c p (port p)
-out-leads port me t vlan came (AtPort i) c p = not-to-stations (eqb i p) (not_by_port came p) vlan c (port p)
-out-leads port me t vlan came (Toward d) c p = by-lowest-only (λ c. eqb d c && may_go_to me t came c) port c p (port p)
+out_leads port me t vlan came Nowhere c p = by_lowest (may_go_to me t came) port (not_by_port came p) vlan c p (port p)
+out_leads port me t vlan came (AtPort i) c p = not-to-stations (eqb i p) (not_by_port came p) vlan c (port p)
+out_leads port me t vlan came (Toward d) c p = by_lowest_only (λ c. eqb d c && may_go_to me t came c) port c p (port p)
 
 passes-so : (out : ℕ → Bool) (port : ℕ → Kind) (g : Bool) (c : ℕ) → ((p : ℕ) → (out p && leads_to (port p) c) ≡ (g && (leads_to (port p) c && none_below port c p))) →
     (n : ℕ) → passes out port c n ≡ (g && not (none_below port c n))
@@ -65,57 +65,57 @@ passes-so out port g c h zero = grind (arith, nat_tests)
 passes-so out port g c h (suc p) = let e = h p in let i = passes-so out port g c h p in grind (arith, nat_tests)
 
 -- the lists of copies
-sent-floods : (out : ℕ → Bool) (port : ℕ → Kind) (t : Tree) (up : ℕ → ℕ → Bool) (x : Copy) →
+sent_floods : (out : ℕ → Bool) (port : ℕ → Kind) (t : Tree) (up : ℕ → ℕ → Bool) (x : Copy) →
     ((c : ℕ) → passes out port c 16 ≡ (joined t x.at c && (up x.at c && not_back x.trail c))) → (n : ℕ) → sent_on out port x n ≡ floods n t up x
 unfolding sent_on floods
-sent-floods out port t up x h zero = refl
-sent-floods out port t up x h (suc c) = rw (h c, sent-floods out port t up x h c)
+sent_floods out port t up x h zero = refl
+sent_floods out port t up x h (suc c) = rw (h c, sent_floods out port t up x h c)
 
-sent-none : (out : ℕ → Bool) (port : ℕ → Kind) (x : Copy) → ((c : ℕ) → passes out port c 16 ≡ false) → (n : ℕ) → sent_on out port x n ≡ []
+sent_none : (out : ℕ → Bool) (port : ℕ → Kind) (x : Copy) → ((c : ℕ) → passes out port c 16 ≡ false) → (n : ℕ) → sent_on out port x n ≡ []
 unfolding sent_on
-sent-none out port x h zero = refl
-sent-none out port x h (suc c) = rw (h c) (sent-none out port x h c)
+sent_none out port x h zero = refl
+sent_none out port x h (suc c) = rw (h c) (sent_none out port x h c)
 
-sent-one : (out : ℕ → Bool) (port : ℕ → Kind) (x : Copy) (d : ℕ) (g : Bool) → ((c : ℕ) → passes out port c 16 ≡ (eqb d c && g)) →
+sent_one : (out : ℕ → Bool) (port : ℕ → Kind) (x : Copy) (d : ℕ) (g : Bool) → ((c : ℕ) → passes out port c 16 ≡ (eqb d c && g)) →
     (n : ℕ) → sent_on out port x n ≡ cond (ltb d n && g) (copy_to x d ∷ []) []
 unfolding sent_on
-sent-one out port x d g h zero = rw (le-ltb d 0 (omega arith))
-sent-one out port x d g h (suc c) = elim (ℕ_discrete d c) [
-  | yes q ↦ rw (h c, eq-eqb d c q, sent-one out port x d g h c, le-ltb d c (omega arith), lt-ltb d (suc c) (omega arith))
+sent_one out port x d g h zero = rw (le-ltb d 0 (omega arith))
+sent_one out port x d g h (suc c) = elim (ℕ_discrete d c) [
+  | yes q ↦ rw (h c, eq-eqb d c q, sent_one out port x d g h c, le-ltb d c (omega arith), lt-ltb d (suc c) (omega arith))
       (subst (λ e. cond g (copy_to x e ∷ []) [] ≡ cond g (copy_to x d ∷ []) []) q refl)
-  | no k ↦ rw (h c, ne_eqb d c k, sent-one out port x d g h c) (ap (λ v. cond (v && g) (copy_to x d ∷ []) []) (further k))
+  | no k ↦ rw (h c, ne_eqb d c k, sent_one out port x d g h c) (ap (λ v. cond (v && g) (copy_to x d ∷ []) []) (further k))
 ]
   where
     further : (d ≡ c → ⊥) → ltb d c ≡ ltb d (suc c)
     further k = grind (arith, nat_tests)
 
 -- what goes on by no port
-pub sent-refused : (out : ℕ → Bool) (port : ℕ → Kind) (x : Copy) → ((p : ℕ) → out p ≡ false) → (n : ℕ) → sent_on out port x n ≡ []
-sent-refused out port x h n = sent-none out port x (λ c. passes-so out port false c (λ p. ap (λ v. v && leads_to (port p) c) (h p)) 16) n
+pub sent_refused : (out : ℕ → Bool) (port : ℕ → Kind) (x : Copy) → ((p : ℕ) → out p ≡ false) → (n : ℕ) → sent_on out port x n ≡ []
+sent_refused out port x h n = sent_none out port x (λ c. passes-so out port false c (λ p. ap (λ v. v && leads_to (port p) c) (h p)) 16) n
 
 module _ (port : ℕ → Kind) (t : Tree) (up : ℕ → ℕ → Bool) (x : Copy) (vlan : ℕ) (came : Came) (out : ℕ → Bool)
     (back : (c : ℕ) → not_to_bridge came c ≡ not_back x.trail c) (links : (c : ℕ) → not (none_below port c 16) ≡ up x.at c) (beyond : (c : ℕ) → 128 ≤ c → up x.at c ≡ false) where
   passes-by : (k : Place) → ((p : ℕ) → out p ≡ out_by port x.at t vlan came k p) → (c : ℕ) → passes out port c 16 ≡ (goes_to x.at t came k c && up x.at c)
-  passes-by k h c = passes-so out port (goes_to x.at t came k c) c (λ p. ap (λ v. v && leads_to (port p) c) (h p) ∙ out-leads port x.at t vlan came k c p) 16 ∙
+  passes-by k h c = passes-so out port (goes_to x.at t came k c) c (λ p. ap (λ v. v && leads_to (port p) c) (h p) ∙ out_leads port x.at t vlan came k c p) 16 ∙
       ap (λ v. goes_to x.at t came k c && v) (links c)
 
-  may-so : (c : ℕ) → (may_go_to x.at t came c && up x.at c) ≡ (joined t x.at c && (up x.at c && not_back x.trail c))
-  may-so c = let b = back c in shuffle (joined t x.at c) (not_to_bridge came c) (not_back x.trail c) (up x.at c) b
+  may_so : (c : ℕ) → (may_go_to x.at t came c && up x.at c) ≡ (joined t x.at c && (up x.at c && not_back x.trail c))
+  may_so c = let b = back c in shuffle (joined t x.at c) (not_to_bridge came c) (not_back x.trail c) (up x.at c) b
     where
       shuffle : (j a b u : Bool) → a ≡ b → ((j && a) && u) ≡ (j && (u && b))
       shuffle j a b u e = grind (arith, nat_tests)
 
   -- copies go on just as in the net
-  pub sent-so : (k : Place) (pl : Plug) → ((p : ℕ) → out p ≡ out_by port x.at t vlan came k p) → sent_on out port x 128 ≡ toward t up x (where_is x.at pl k) 128
-  sent-so Nowhere pl h = sent-floods out port t up x (λ c. passes-by Nowhere h c ∙ may-so c) 128
-  sent-so (AtPort i) pl h = sent-none out port x (passes-by (AtPort i) h) 128 ∙
+  pub sent_so : (k : Place) (pl : Plug) → ((p : ℕ) → out p ≡ out_by port x.at t vlan came k p) → sent_on out port x 128 ≡ toward t up x (where_is x.at pl k) 128
+  sent_so Nowhere pl h = sent_floods out port t up x (λ c. passes-by Nowhere h c ∙ may_so c) 128
+  sent_so (AtPort i) pl h = sent_none out port x (passes-by (AtPort i) h) 128 ∙
       cond_both (eqb pl.bridge x.at && eqb pl.port i) Here (Behind x.at) (λ k. [] ≡ toward t up x k 128) (λ _. refl) (λ _. rw (eq-eqb x.at x.at refl))
-  sent-so (Toward d) pl h = sent-one out port x d (joined t x.at d && (up x.at d && not_back x.trail d)) (λ c. passes-by (Toward d) h c ∙ only c) 128 ∙
+  sent_so (Toward d) pl h = sent_one out port x d (joined t x.at d && (up x.at d && not_back x.trail d)) (λ c. passes-by (Toward d) h c ∙ only c) 128 ∙
       ap (λ v. cond v (copy_to x d ∷ []) []) inside
     where
       only : (c : ℕ) → ((eqb d c && may_go_to x.at t came c) && up x.at c) ≡ (eqb d c && (joined t x.at d && (up x.at d && not_back x.trail d)))
       only c = elim (ℕ_discrete d c) [
-        | yes q ↦ subst (λ c. ((eqb d c && may_go_to x.at t came c) && up x.at c) ≡ (eqb d c && (joined t x.at d && (up x.at d && not_back x.trail d)))) q (rw (eq-eqb d d refl) (may-so d))
+        | yes q ↦ subst (λ c. ((eqb d c && may_go_to x.at t came c) && up x.at c) ≡ (eqb d c && (joined t x.at d && (up x.at d && not_back x.trail d)))) q (rw (eq-eqb d d refl) (may_so d))
         | no k ↦ rw (ne_eqb d c k)
       ]
 
@@ -123,11 +123,11 @@ module _ (port : ℕ → Kind) (t : Tree) (up : ℕ → ℕ → Bool) (x : Copy)
       inside = let b = beyond d in grind (arith, nat_tests, b)
 
 -- each copy that goes on is to a bridge, and comes from one
-pub sent-mem : (out : ℕ → Bool) (port : ℕ → Kind) (x y : Copy) (n : ℕ) → Memᴰ y (sent_on out port x n) → (c : ℕ) × (c < n) × (y ≡ copy_to x c)
+pub sent_mem : (out : ℕ → Bool) (port : ℕ → Kind) (x y : Copy) (n : ℕ) → Memᴰ y (sent_on out port x n) → (c : ℕ) × (c < n) × (y ≡ copy_to x c)
 unfolding sent_on
-sent-mem out port x y zero m = absurd (Memᴰ.not-nil m)
-sent-mem out port x y (suc c) m = cond_both (passes out port c 16) (copy_to x c ∷ sent_on out port x c) (sent_on out port x c) (λ ys. Memᴰ y ys → (d : ℕ) × (d < suc c) × (y ≡ copy_to x d))
-    (λ _ m. elim (Memᴰ.cases_cons m) [ inl e ↦ (c, last, e) | inr m' ↦ wider (sent-mem out port x y c m') ]) (λ _ m. wider (sent-mem out port x y c m)) m
+sent_mem out port x y zero m = absurd (Memᴰ.not-nil m)
+sent_mem out port x y (suc c) m = cond_both (passes out port c 16) (copy_to x c ∷ sent_on out port x c) (sent_on out port x c) (λ ys. Memᴰ y ys → (d : ℕ) × (d < suc c) × (y ≡ copy_to x d))
+    (λ _ m. elim (Memᴰ.cases_cons m) [ inl e ↦ (c, last, e) | inr m' ↦ wider (sent_mem out port x y c m') ]) (λ _ m. wider (sent_mem out port x y c m)) m
   where
     last : c < suc c
     last = omega arith

@@ -11,7 +11,7 @@ use Rattle.ports.specs.Places.{Place, Nowhere, AtPort, Toward}
 use Rattle.forwarding.specs.State.{State, is_tree, look_in}
 use Rattle.network.specs.Network.{Network, Plug, vlan_of}
 use Rattle.network.specs.Simulation.{place_in, where_is, home_of, Simulates}
-use Rattle.network.proofs.Tests.{by-test, by-eq}
+use Rattle.network.proofs.Tests.{by_test, by_eq}
 use Rattle.network.proofs.Worlds.{follow, follow-append, relearnt}
 use Rattle.network.proofs.Standing.{Stands, stands, simulates}
 
@@ -37,20 +37,20 @@ turn_in b pl q s (This t) = turn_at b pl q t.number (place_in s t.number q)
 abbrev turned_in : ℕ → Plug → ℕ → State → Found → (ℕ → ℕ → ℕ → Where) → ℕ → ℕ → ℕ → Where
 turned_in b pl q s tree f p t r = cond (eqb p b && (is_tree t tree && eqb r q)) (retold b pl (place_in s t q) (f p t r)) (f p t r)
 
-turn-world : (b : ℕ) (pl : Plug) (q : ℕ) (s : State) (tree : Found) (w : World) → follow (turn_in b pl q s tree) w ≡ relearnt (turned_in b pl q s tree w.learned) w
+turn_world : (b : ℕ) (pl : Plug) (q : ℕ) (s : State) (tree : Found) (w : World) → follow (turn_in b pl q s tree) w ≡ relearnt (turned_in b pl q s tree w.learned) w
 unfolding follow turn_at
-turn-world b pl q s NoTree w = ap (λ f. relearnt f w) (λ i p t r. same p t r i)
+turn_world b pl q s NoTree w = ap (λ f. relearnt f w) (λ i p t r. same p t r i)
   where
     same : (p t r : ℕ) → w.learned p t r ≡ turned_in b pl q s NoTree w.learned p t r
     same p t r = grind (arith, nat_tests)
-turn-world b pl q s (This u) w = go (place_in s u.number q) refl
+turn_world b pl q s (This u) w = go (place_in s u.number q) refl
   where
     test : ℕ → ℕ → ℕ → Bool
     test p t r = eqb p b && (eqb u.number t && eqb r q)
 
     -- along that tree the place is the one that was looked at
     at-tree : (k : Place) → place_in s u.number q ≡ k → (f : ℕ → ℕ → ℕ → Where) (p t r : ℕ) → cond (test p t r) (retold b pl k (f p t r)) (f p t r) ≡ turned_in b pl q s (This u) f p t r
-    at-tree k e f p t r = by-test (eqb p b) (λ v. cond (v && (eqb u.number t && eqb r q)) (retold b pl k (f p t r)) (f p t r) ≡ cond (v && (eqb u.number t && eqb r q)) (retold b pl (place_in s t q) (f p t r)) (f p t r))
+    at-tree k e f p t r = by_test (eqb p b) (λ v. cond (v && (eqb u.number t && eqb r q)) (retold b pl k (f p t r)) (f p t r) ≡ cond (v && (eqb u.number t && eqb r q)) (retold b pl (place_in s t q) (f p t r)) (f p t r))
         (λ _. elim (ℕ_discrete u.number t) [
           | yes h ↦ subst (λ t. cond (eqb u.number t && eqb r q) (retold b pl k (f p t r)) (f p t r) ≡ cond (eqb u.number t && eqb r q) (retold b pl (place_in s t q) (f p t r)) (f p t r)) h
               (ap (λ k. cond (eqb u.number u.number && eqb r q) (retold b pl k (f p u.number r)) (f p u.number r)) (sym e))
@@ -75,7 +75,7 @@ turn-world b pl q s (This u) w = go (place_in s u.number q) refl
 retold-once : (b : ℕ) (old pl : Plug) (p : Place) (k : Where) → where_is b old p ≡ k → retold b pl p k ≡ where_is b pl p
 retold-once b old pl Nowhere k h = sym h
 retold-once b old pl (AtPort i) k h = subst (λ k. turned b (is_there b pl i) k ≡ where_is b pl (AtPort i)) h
-    (by-test (is_there b old i) (λ v. turned b (is_there b pl i) (cond v Here (Behind b)) ≡ cond (is_there b pl i) Here (Behind b)) (λ _. refl) (λ _. again (is_there b pl i)))
+    (by_test (is_there b old i) (λ v. turned b (is_there b pl i) (cond v Here (Behind b)) ≡ cond (is_there b pl i) Here (Behind b)) (λ _. refl) (λ _. again (is_there b pl i)))
   where
     again : (v : Bool) → cond (v && eqb b b) Here (Behind b) ≡ cond v Here (Behind b)
     again v = grind (arith, nat_tests)
@@ -102,18 +102,18 @@ module _ (n : Network) (q : ℕ) (pl : Plug) where
   abbrev turned_of : ℕ → (ℕ → ℕ → ℕ → Where) → ℕ → ℕ → ℕ → Where
   turned_of b f = turned_in b pl q (n.bridge b) (n.bridge b).newest.tree (turned_in b pl q (n.bridge b) (n.bridge b).older.tree f)
 
-  turns-world : (b : ℕ) (w : World) → follow (turns_of b) w ≡ relearnt (turned_of b w.learned) w
+  turns_world : (b : ℕ) (w : World) → follow (turns_of b) w ≡ relearnt (turned_of b w.learned) w
   unfolding turns_of
-  turns-world b w = follow-append (turn_in b pl q (n.bridge b) (n.bridge b).newest.tree) _ w ∙
-      (ap (follow (turn_in b pl q (n.bridge b) (n.bridge b).newest.tree)) (turn-world b pl q (n.bridge b) (n.bridge b).older.tree w) ∙
-      turn-world b pl q (n.bridge b) (n.bridge b).newest.tree (relearnt (turned_in b pl q (n.bridge b) (n.bridge b).older.tree w.learned) w))
+  turns_world b w = follow-append (turn_in b pl q (n.bridge b) (n.bridge b).newest.tree) _ w ∙
+      (ap (follow (turn_in b pl q (n.bridge b) (n.bridge b).newest.tree)) (turn_world b pl q (n.bridge b) (n.bridge b).older.tree w) ∙
+      turn_world b pl q (n.bridge b) (n.bridge b).newest.tree (relearnt (turned_in b pl q (n.bridge b) (n.bridge b).older.tree w.learned) w))
 
   -- a bridge's part, once it is turned
   turned-here : (b : ℕ) (w : World) → Stands n.plug b (n.bridge b) w → Stands (at q pl n.plug) b (n.bridge b) (relearnt (turned_of b w.learned) w)
   turned-here b w i = record {
     holds_so = i.holds_so;
     held_so = i.held_so;
-    learned_so = λ t r. rw (eq-eqb b b refl) (by-eq r q
+    learned_so = λ t r. rw (eq-eqb b b refl) (by_eq r q
         (λ r v. where_is b (cond v pl (n.plug r)) (place_in (n.bridge b) t r) ≡
         cond (is_tree t (n.bridge b).newest.tree && v) (retold b pl (place_in (n.bridge b) t q) (cond (is_tree t (n.bridge b).older.tree && v) (retold b pl (place_in (n.bridge b) t q) (w.learned b t r)) (w.learned b t r)))
         (cond (is_tree t (n.bridge b).older.tree && v) (retold b pl (place_in (n.bridge b) t q) (w.learned b t r)) (w.learned b t r)))
@@ -144,8 +144,8 @@ module _ (n : Network) (q : ℕ) (pl : Plug) where
     got_so : n.got ≡ w.got
     next_so : n.next ≡ w.next
 
-  turning-more : (k : ℕ) (w : World) → Turning k w → Turning (suc k) (relearnt (turned_of k w.learned) w)
-  turning-more k w i = record {
+  turning_more : (k : ℕ) (w : World) → Turning k w → Turning (suc k) (relearnt (turned_of k w.learned) w)
+  turning_more k w i = record {
     done = λ b lt h. elim (ℕ_discrete b k) [
       | yes e ↦ subst (λ b. b < 128 → Stands (at q pl n.plug) b (n.bridge b) (relearnt (turned_of k w.learned) w)) (sym e) (λ l. turned-here k w (i.left k l (omega arith))) lt
       | no e ↦ turned-other (at q pl n.plug) k b (n.bridge b) w e (i.done b lt (less b h e))
@@ -164,10 +164,10 @@ module _ (n : Network) (q : ℕ) (pl : Plug) where
       more : (b : ℕ) → suc k ≤ b → b ≡ k → ⊥
       more b h e = omega arith
 
-  turning-up : (k : ℕ) (w : World) → Turning 0 w → Turning k (follow (turns_up_to k) w)
+  turning_up : (k : ℕ) (w : World) → Turning 0 w → Turning k (follow (turns_up_to k) w)
   unfolding turns_up_to follow
-  turning-up zero w i = i
-  turning-up (suc k) w i = subst (λ u. Turning (suc k) u) (sym (follow-append (turns_of k) (turns_up_to k) w ∙ turns-world k (follow (turns_up_to k) w))) (turning-more k (follow (turns_up_to k) w) (turning-up k w i))
+  turning_up zero w i = i
+  turning_up (suc k) w i = subst (λ u. Turning (suc k) u) (sym (follow-append (turns_of k) (turns_up_to k) w ∙ turns_world k (follow (turns_up_to k) w))) (turning_more k (follow (turns_up_to k) w) (turning_up k w i))
 
   -- the home of a station, by where it is plugged in
   abbrev home_by : Plug → ℕ → ℕ
@@ -179,7 +179,7 @@ module _ (n : Network) (q : ℕ) (pl : Plug) where
   plugging w i = (
     turns_up_to 128 ++ (Move q (home_of plugged q) ∷ []),
     subst (λ u. Simulates plugged u) (sym (follow-append (turns_up_to 128) (Move q (home_of plugged q) ∷ []) w))
-        (let v = turning-up 128 moved start in simulates plugged (follow (turns_up_to 128) moved) (λ b lt. v.done b lt lt) v.home_so v.trees_so v.flying_so v.got_so v.next_so),
+        (let v = turning_up 128 moved start in simulates plugged (follow (turns_up_to 128) moved) (λ b lt. v.done b lt lt) v.home_so v.trees_so v.flying_so v.got_so v.next_so),
   )
     where
       moved : World
@@ -189,7 +189,7 @@ module _ (n : Network) (q : ℕ) (pl : Plug) where
       start = record {
         done = λ b lt h. absurd (omega arith);
         left = λ b lt h. stands n w i b lt;
-        home_so = λ r. by-eq r q (λ r v. home_by (cond v pl (n.plug r)) r ≡ cond v (home_of plugged q) (w.home r)) (rw (eq-eqb q q refl)) (λ _. i.home_so r);
+        home_so = λ r. by_eq r q (λ r v. home_by (cond v pl (n.plug r)) r ≡ cond v (home_of plugged q) (w.home r)) (rw (eq-eqb q q refl)) (λ _. i.home_so r);
         trees_so = i.trees_so;
         flying_so = i.flying_so;
         got_so = i.got_so;

@@ -6,10 +6,10 @@ use Rattle.bridges.specs.Fabric.{Event, run}
 use Rattle.bridges.specs.Guarantee.{Assured, sent_by}
 use Rattle.network.specs.Network.{Network, rules, vlan_of}
 use Rattle.network.specs.Simulation.{Simulates, Safe, AlwaysSafe}
-use Rattle.network.proofs.Runs.{runs-as-net}
+use Rattle.network.proofs.Runs.{runs_as_net}
 
-safe-if : (n : Network) (es : List Event) → Simulates n (run false rules es) → Assured false rules es → Safe n
-safe-if n es i a = record {
+safe_if : (n : Network) (es : List Event) → Simulates n (run false rules es) → Assured false rules es → Safe n
+safe_if n es i a = record {
   no_round = λ x m. a.no_round x (subst (λ xs. Memᴰ x xs) i.flying_so m);
   not_twice = λ f s b. subst (λ gs. count_got f s b gs ≤ 1) (sym i.got_so) (a.not_twice f s b);
   own_vlan = λ f g h mg mh eg eh.
@@ -19,5 +19,5 @@ safe-if n es i a = record {
       p.3 ∙ (ap vlan_of one.0 ∙ sym q.3);
 }
 
-pub always-safe : AlwaysSafe
-always-safe ports n r = let e = runs-as-net ports n r in safe-if n e.0 e.1 e.2
+pub always_safe : AlwaysSafe
+always_safe ports n r = let e = runs_as_net ports n r in safe_if n e.0 e.1 e.2

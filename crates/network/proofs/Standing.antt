@@ -9,7 +9,7 @@ use Rattle.ports.specs.Outward.{serves}
 use Rattle.forwarding.specs.State.{State}
 use Rattle.network.specs.Network.{Network, Plug, vlan_of}
 use Rattle.network.specs.Simulation.{held_by, numbers, place_in, where_is, home_of, Simulates}
-use Rattle.network.proofs.Tests.{by-eq}
+use Rattle.network.proofs.Tests.{by_eq}
 
 -- a bridge's state stands for its part of a world
 pub record StandsOf (plug : ℕ → Plug) (b : ℕ) (s : State) (trees : List Tree) (holds : List ℕ) (learned : ℕ → ℕ → Where) (up : ℕ → Bool) : Type 0 where
@@ -25,11 +25,11 @@ Stands plug b s w = StandsOf plug b s w.trees (w.holds b) (w.learned b) (w.up b)
 abbrev pub with_bridge : Network → ℕ → State → Network
 with_bridge n b s = record { bridge = at b s n.bridge; plug = n.plug; trees = n.trees; flying = n.flying; got = n.got; next = n.next }
 
-pub bridge-same : (n : Network) (b : ℕ) → with_bridge n b (n.bridge b) ≡ n
-bridge-same n b = λ i. record { bridge = λ c. same c i; plug = n.plug; trees = n.trees; flying = n.flying; got = n.got; next = n.next }
+pub bridge_same : (n : Network) (b : ℕ) → with_bridge n b (n.bridge b) ≡ n
+bridge_same n b = λ i. record { bridge = λ c. same c i; plug = n.plug; trees = n.trees; flying = n.flying; got = n.got; next = n.next }
   where
     same : (c : ℕ) → at b (n.bridge b) n.bridge c ≡ n.bridge c
-    same c = by-eq c b (λ c v. cond v (n.bridge b) (n.bridge c) ≡ n.bridge c) refl (λ _. refl)
+    same c = by_eq c b (λ c v. cond v (n.bridge b) (n.bridge c) ≡ n.bridge c) refl (λ _. refl)
 
 -- one bridge, all others, and the rest
 pub record View (n : Network) (b : ℕ) (s : State) (w : World) : Type 0 where
@@ -71,12 +71,12 @@ view n b s w lt i = record {
 
 pub whole : (n : Network) (b : ℕ) (s : State) (w : World) → View n b s w → Simulates (with_bridge n b s) w
 whole n b s w v = simulates (with_bridge n b s) w
-    (λ c l. by-eq c b (λ c e. c < 128 → Stands n.plug c (cond e s (n.bridge c)) w) (λ _. v.here) (λ k l. v.others c l k) l)
+    (λ c l. by_eq c b (λ c e. c < 128 → Stands n.plug c (cond e s (n.bridge c)) w) (λ _. v.here) (λ k l. v.others c l k) l)
     v.home_so v.trees_so v.flying_so v.got_so v.next_so
 
 -- stations are where they were as long as each port serves the same VLANs
-pub homes-stay : (n : Network) (b : ℕ) (s s' : State) → ((p v : ℕ) → serves (ports_of s'.ports p) v ≡ serves (ports_of s.ports p) v) →
+pub homes_stay : (n : Network) (b : ℕ) (s s' : State) → ((p v : ℕ) → serves (ports_of s'.ports p) v ≡ serves (ports_of s.ports p) v) →
     (q : ℕ) → home_of (with_bridge n b s') q ≡ home_of (with_bridge n b s) q
-homes-stay n b s s' h q = ap (λ e. cond (ltb (n.plug q).bridge 128 && (eqb (n.plug q).bridge (n.plug q).bridge && e)) (n.plug q).bridge 128)
-    (by-eq (n.plug q).bridge b (λ c e. serves (ports_of (cond e s' (n.bridge c)).ports (n.plug q).port) (vlan_of q) ≡ serves (ports_of (cond e s (n.bridge c)).ports (n.plug q).port) (vlan_of q))
+homes_stay n b s s' h q = ap (λ e. cond (ltb (n.plug q).bridge 128 && (eqb (n.plug q).bridge (n.plug q).bridge && e)) (n.plug q).bridge 128)
+    (by_eq (n.plug q).bridge b (λ c e. serves (ports_of (cond e s' (n.bridge c)).ports (n.plug q).port) (vlan_of q) ≡ serves (ports_of (cond e s (n.bridge c)).ports (n.plug q).port) (vlan_of q))
     (h (n.plug q).port (vlan_of q)) (λ _. refl))

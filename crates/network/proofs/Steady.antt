@@ -16,8 +16,8 @@ use Rattle.ports.specs.Places.{Came, ByPort}
 use Rattle.forwarding.specs.State.{State, is_tree, adopted, aged_state, crashed, started, linked}
 use Rattle.forwarding.specs.Replies.{Way, Refuse, Newest, Older, none, after, may_link, relinked}
 use Rattle.network.specs.Network.{Network, Steps, announces, adopts, links, ages, crashes, plugs, sends, comes, loses, Reached, first, then, sent_on, handled, locate, first_copy, track_of, came_from}
-use Rattle.network.proofs.Tests.{by-eq}
-use Rattle.network.proofs.Onward.{sent-mem}
+use Rattle.network.proofs.Tests.{by_eq}
+use Rattle.network.proofs.Onward.{sent_mem}
 
 pub record Kept (b : ℕ) (s : State) : Type 0 where
   pub numbered : s.number ≡ b
@@ -76,32 +76,32 @@ kept-after b Older l from to tick s k = record {
 
 -- one bridge changes
 kept_at : (n : Network) (b : ℕ) (s : State) → Steady n → Kept b s → (c : ℕ) → Kept c (at b s n.bridge c)
-kept_at n b s i k c = by-eq c b (λ c v. Kept c (cond v s (n.bridge c))) k (λ _. i.kept c)
+kept_at n b s i k c = by_eq c b (λ c v. Kept c (cond v s (n.bridge c))) k (λ _. i.kept c)
 
 -- a frame is handled: the copies that go on come from its bridge
 flies-on : (x : Copy) (out : ℕ → Bool) (port : ℕ → Kind) (flying : List Copy) → ((y : Copy) → Memᴰ y flying → Flies y) → (y : Copy) → Memᴰ y (sent_on out port x 128 ++ flying) → Flies y
-flies-on x out port flying h y m = elim (Memᴰ.append_cases (sent_on out port x 128) m) [ inl m' ↦ new (sent-mem out port x y 128 m') | inr m' ↦ h y m' ]
+flies-on x out port flying h y m = elim (Memᴰ.append_cases (sent_on out port x 128) m) [ inl m' ↦ new (sent_mem out port x y 128 m') | inr m' ↦ h y m' ]
   where
     new : (c : ℕ) × (c < 128) × (y ≡ copy_to x c) → Flies y
     new e = subst Flies (sym e.2) (record { inside = e.1; last = x.at; before = x.trail; is = refl })
 
-steady-handled : (n : Network) (way : Way) (came : Came) (x : Copy) (tick : ℕ) (flying : List Copy) (next : ℕ) → Steady n → ((y : Copy) → Memᴰ y flying → Flies y) → Steady (handled n way came x tick flying next)
-steady-handled n way came x tick flying next i h = record {
+steady_handled : (n : Network) (way : Way) (came : Came) (x : Copy) (tick : ℕ) (flying : List Copy) (next : ℕ) → Steady n → ((y : Copy) → Memᴰ y flying → Flies y) → Steady (handled n way came x tick flying next)
+steady_handled n way came x tick flying next i h = record {
   kept = kept_at n x.at _ i (kept-after x.at way (locate came) x.frame.from x.frame.to tick (n.bridge x.at) (i.kept x.at));
   flies = flies-on x _ _ flying h;
 }
 
-steady-step : {n m : Network} → Steady n → Steps n m → Steady m
-steady-step i (announces t e) = record { kept = i.kept; flies = i.flies }
-steady-step {n} i (adopts b t lt known good) = record { kept = kept_at n b _ i (kept-adopted b t (n.bridge b) (i.kept b)); flies = i.flies }
-steady-step {n} i (links b p l lt) = record { kept = kept_at n b _ i (kept-relinked b p l (n.bridge b) (i.kept b)); flies = i.flies }
-steady-step {n} i (ages b tick lt) = record { kept = kept_at n b _ i (kept-aged b tick (n.bridge b) (i.kept b)); flies = i.flies }
-steady-step {n} i (crashes b lt) = record { kept = kept_at n b _ i (kept-crashed b (n.bridge b) (i.kept b)); flies = i.flies }
-steady-step i (plugs q w) = record { kept = i.kept; flies = i.flies }
-steady-step {n} i (sends q to tick lt here lq lto same has) = steady-handled n Newest (ByPort (n.plug q).port) (first_copy n (n.plug q).bridge q to) tick n.flying (suc n.next) i i.flies
-steady-step {n} i (comes j tick x e) = steady-handled n (track_of (n.bridge x.at) x.frame.tree) (came_from x.trail) x tick (without j n.flying) n.next i (λ y m. i.flies y (without-mem j n.flying m))
-steady-step {n} i (loses j) = record { kept = i.kept; flies = λ y m. i.flies y (without-mem j n.flying m) }
+steady_step : {n m : Network} → Steady n → Steps n m → Steady m
+steady_step i (announces t e) = record { kept = i.kept; flies = i.flies }
+steady_step {n} i (adopts b t lt known good) = record { kept = kept_at n b _ i (kept-adopted b t (n.bridge b) (i.kept b)); flies = i.flies }
+steady_step {n} i (links b p l lt) = record { kept = kept_at n b _ i (kept-relinked b p l (n.bridge b) (i.kept b)); flies = i.flies }
+steady_step {n} i (ages b tick lt) = record { kept = kept_at n b _ i (kept-aged b tick (n.bridge b) (i.kept b)); flies = i.flies }
+steady_step {n} i (crashes b lt) = record { kept = kept_at n b _ i (kept-crashed b (n.bridge b) (i.kept b)); flies = i.flies }
+steady_step i (plugs q w) = record { kept = i.kept; flies = i.flies }
+steady_step {n} i (sends q to tick lt here lq lto same has) = steady_handled n Newest (ByPort (n.plug q).port) (first_copy n (n.plug q).bridge q to) tick n.flying (suc n.next) i i.flies
+steady_step {n} i (comes j tick x e) = steady_handled n (track_of (n.bridge x.at) x.frame.tree) (came_from x.trail) x tick (without j n.flying) n.next i (λ y m. i.flies y (without-mem j n.flying m))
+steady_step {n} i (loses j) = record { kept = i.kept; flies = λ y m. i.flies y (without-mem j n.flying m) }
 
 pub steady : (ports : ℕ → List Port) {n : Network} → Reached ports n → Steady n
 steady ports first = record { kept = λ b. kept-started b (ports b); flies = λ x m. absurd (Memᴰ.not-nil m) }
-steady ports (then r s) = steady-step (steady ports r) s
+steady ports (then r s) = steady_step (steady ports r) s

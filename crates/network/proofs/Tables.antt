@@ -30,9 +30,9 @@ look-put e es q = elim (ℕ_discrete q e.station) [
 ]
 
 -- room is made: of all but the one that is kept what was known stays or is forgotten
-room-finds : (keep q : ℕ) (es : List Entry) → (find q (room_for keep es) ≡ find q es) ⊎ ((find q (room_for keep es) ≡ None) × (q ≡ keep → ⊥))
+room_finds : (keep q : ℕ) (es : List Entry) → (find q (room_for keep es) ≡ find q es) ⊎ ((find q (room_for keep es) ≡ None) × (q ≡ keep → ⊥))
 unfolding room_for
-room-finds keep q es =
+room_finds keep q es =
     cond_both (ltb (length es) most) es (evicted (oldest keep es) es) (λ xs. (find q xs ≡ find q es) ⊎ ((find q xs ≡ None) × (q ≡ keep → ⊥))) (λ _. inl refl)
     (λ _. go (oldest keep es) refl)
   where
@@ -48,7 +48,7 @@ unfolding learned
 learned-finds e keep q es = elim (ℕ_discrete q e.station) [
   | yes h ↦ inl (subst (λ s. find s (put e room) ≡ find s (put e es)) (sym h) (find-put e room ∙ sym (find-put e es)))
   | no k ↦ cond_both (is_some (find e.station es)) es (room_for keep es) (λ xs. (find q (put e xs) ≡ find q (put e es)) ⊎ ((find q (put e xs) ≡ None) × (q ≡ keep → ⊥)))
-      (λ _. inl refl) (λ _. go k (room-finds keep q es))
+      (λ _. inl refl) (λ _. go k (room_finds keep q es))
 ]
   where
     room : List Entry

@@ -48,21 +48,21 @@ forgets_in b (This t) qs = forgets_all b t.number qs
 abbrev pub forgot_in : ℕ → Found → List ℕ → (ℕ → ℕ → ℕ → Where) → ℕ → ℕ → ℕ → Where
 forgot_in b tree qs f p t q = cond (eqb p b && (is_tree t tree && is_in q qs)) Unknown (f p t q)
 
-forget-more : (b n s p t q : ℕ) (qs : List ℕ) (k : Where) →
+forget_more : (b n s p t q : ℕ) (qs : List ℕ) (k : Where) →
     cond (eqb p b && (eqb t n && eqb q s)) Unknown (cond (eqb p b && (eqb n t && is_in q qs)) Unknown k) ≡ cond (eqb p b && (eqb n t && is_in q (s ∷ qs))) Unknown k
 unfolding is_in
-forget-more b n s p t q qs k = grind (arith, nat_tests)
+forget_more b n s p t q qs k = grind (arith, nat_tests)
 
-forgets-all : (b : ℕ) (u : Tree) (qs : List ℕ) (w : World) → follow (forgets_all b u.number qs) w ≡ relearnt (forgot_in b (This u) qs w.learned) w
+forgets_all_lem : (b : ℕ) (u : Tree) (qs : List ℕ) (w : World) → follow (forgets_all b u.number qs) w ≡ relearnt (forgot_in b (This u) qs w.learned) w
 unfolding follow forgets_all is_in
-forgets-all b u [] w = relearnt-path w.learned (forgot_in b (This u) [] w.learned) w (λ p t q. grind (arith, nat_tests))
-forgets-all b u (s ∷ qs) w = ap (happen false rules (Forget b u.number s)) (forgets-all b u qs w) ∙
-    relearnt-path _ (forgot_in b (This u) (s ∷ qs) w.learned) w (λ p t q. forget-more b u.number s p t q qs (w.learned p t q))
+forgets_all_lem b u [] w = relearnt-path w.learned (forgot_in b (This u) [] w.learned) w (λ p t q. grind (arith, nat_tests))
+forgets_all_lem b u (s ∷ qs) w = ap (happen false rules (Forget b u.number s)) (forgets_all_lem b u qs w) ∙
+    relearnt-path _ (forgot_in b (This u) (s ∷ qs) w.learned) w (λ p t q. forget_more b u.number s p t q qs (w.learned p t q))
 
-pub forgets-so : (b : ℕ) (tree : Found) (qs : List ℕ) (w : World) → follow (forgets_in b tree qs) w ≡ relearnt (forgot_in b tree qs w.learned) w
+pub forgets_so : (b : ℕ) (tree : Found) (qs : List ℕ) (w : World) → follow (forgets_in b tree qs) w ≡ relearnt (forgot_in b tree qs w.learned) w
 unfolding follow
-forgets-so b NoTree qs w = relearnt-path w.learned (forgot_in b NoTree qs w.learned) w (λ p t q. grind (arith, nat_tests))
-forgets-so b (This u) qs w = forgets-all b u qs w
+forgets_so b NoTree qs w = relearnt-path w.learned (forgot_in b NoTree qs w.learned) w (λ p t q. grind (arith, nat_tests))
+forgets_so b (This u) qs w = forgets_all_lem b u qs w
 
 -- a bridge believes something of its links to the first k bridges
 unfoldable pub believes_all : ℕ → (ℕ → Bool) → ℕ → List Event
@@ -72,29 +72,29 @@ believes_all b f (suc c) = Believe b c (f c) ∷ believes_all b f c
 abbrev pub beliefs : ℕ → (ℕ → Bool) → ℕ → (ℕ → ℕ → Bool) → ℕ → ℕ → Bool
 beliefs b f k up p c = cond (eqb p b && ltb c k) (f c) (up p c)
 
-believe-more : (b k p c : ℕ) (f : ℕ → Bool) (v : Bool) → cond (eqb p b && eqb c k) (f k) (cond (eqb p b && ltb c k) (f c) v) ≡ cond (eqb p b && ltb c (suc k)) (f c) v
-believe-more b k p c f v = grind (arith, nat_tests)
+believe_more : (b k p c : ℕ) (f : ℕ → Bool) (v : Bool) → cond (eqb p b && eqb c k) (f k) (cond (eqb p b && ltb c k) (f c) v) ≡ cond (eqb p b && ltb c (suc k)) (f c) v
+believe_more b k p c f v = grind (arith, nat_tests)
 
-pub believes-so : (b : ℕ) (f : ℕ → Bool) (k : ℕ) (w : World) → follow (believes_all b f k) w ≡ believed (beliefs b f k w.up) w
+pub believes_so : (b : ℕ) (f : ℕ → Bool) (k : ℕ) (w : World) → follow (believes_all b f k) w ≡ believed (beliefs b f k w.up) w
 unfolding follow believes_all
-believes-so b f zero w = believed-path w.up (beliefs b f 0 w.up) w (λ p c. grind (arith, nat_tests))
-believes-so b f (suc k) w = ap (happen false rules (Believe b k (f k))) (believes-so b f k w) ∙
-    believed-path _ (beliefs b f (suc k) w.up) w (λ p c. believe-more b k p c f (w.up p c))
+believes_so b f zero w = believed-path w.up (beliefs b f 0 w.up) w (λ p c. grind (arith, nat_tests))
+believes_so b f (suc k) w = ap (happen false rules (Believe b k (f k))) (believes_so b f k w) ∙
+    believed-path _ (beliefs b f (suc k) w.up) w (λ p c. believe_more b k p c f (w.up p c))
 
 -- and so do all of the first k bridges
 unfoldable pub believes_up_to : (ℕ → ℕ → Bool) → ℕ → ℕ → List Event
 believes_up_to f m zero = []
 believes_up_to f m (suc b) = believes_all b (f b) m ++ believes_up_to f m b
 
-believe-bridge : (f : ℕ → ℕ → Bool) (m k p c : ℕ) (v : Bool) →
+believe_bridge : (f : ℕ → ℕ → Bool) (m k p c : ℕ) (v : Bool) →
     cond (eqb p k && ltb c m) (f k c) (cond (ltb p k && ltb c m) (f p c) v) ≡ cond (ltb p (suc k) && ltb c m) (f p c) v
-believe-bridge f m k p c v = elim (ℕ_discrete p k) [
+believe_bridge f m k p c v = elim (ℕ_discrete p k) [
   | yes h ↦ subst (λ p. cond (eqb p k && ltb c m) (f k c) (cond (ltb p k && ltb c m) (f p c) v) ≡ cond (ltb p (suc k) && ltb c m) (f p c) v) (sym h) (grind (arith, nat_tests))
   | no h ↦ grind (arith, nat_tests)
 ]
 
-pub believes-up-to : (f : ℕ → ℕ → Bool) (m k : ℕ) (w : World) → follow (believes_up_to f m k) w ≡ believed (λ p c. cond (ltb p k && ltb c m) (f p c) (w.up p c)) w
+pub believes_up_to_lem : (f : ℕ → ℕ → Bool) (m k : ℕ) (w : World) → follow (believes_up_to f m k) w ≡ believed (λ p c. cond (ltb p k && ltb c m) (f p c) (w.up p c)) w
 unfolding follow believes_up_to
-believes-up-to f m zero w = believed-path w.up (λ p c. cond (ltb p 0 && ltb c m) (f p c) (w.up p c)) w (λ p c. grind (arith, nat_tests))
-believes-up-to f m (suc k) w = follow-append (believes_all k (f k) m) (believes_up_to f m k) w ∙ (ap (follow (believes_all k (f k) m)) (believes-up-to f m k w) ∙
-    (believes-so k (f k) m _ ∙ believed-path _ (λ p c. cond (ltb p (suc k) && ltb c m) (f p c) (w.up p c)) w (λ p c. believe-bridge f m k p c (w.up p c))))
+believes_up_to_lem f m zero w = believed-path w.up (λ p c. cond (ltb p 0 && ltb c m) (f p c) (w.up p c)) w (λ p c. grind (arith, nat_tests))
+believes_up_to_lem f m (suc k) w = follow-append (believes_all k (f k) m) (believes_up_to f m k) w ∙ (ap (follow (believes_all k (f k) m)) (believes_up_to_lem f m k w) ∙
+    (believes_so k (f k) m _ ∙ believed-path _ (λ p c. cond (ltb p (suc k) && ltb c m) (f p c) (w.up p c)) w (λ p c. believe_bridge f m k p c (w.up p c))))

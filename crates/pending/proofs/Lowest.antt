@@ -18,8 +18,8 @@ unfolding lowest
 none_from f k zero no_one = refl
 none_from f k (suc n) no_one = rw (no_one k) (none_from f (k + 1) n no_one)
 
-pub table-first : {X : Type 0} (mk : ℕ → X → Message) (t : ℕ → Option X) (b : ℕ) (x : X) → b < 128 → First t b x → lowest (λ k. option_map (mk k) (t k)) 0 128 ≡ Some (mk b x)
-table-first mk t b x lt is = from (λ k. option_map (mk k) (t k)) 0 128 b (mk b x) (omega arith) (omega arith) (ap (option_map (mk b)) is.0) (λ j h. ap (option_map (mk j)) (is.1 j h))
+pub table_first : {X : Type 0} (mk : ℕ → X → Message) (t : ℕ → Option X) (b : ℕ) (x : X) → b < 128 → First t b x → lowest (λ k. option_map (mk k) (t k)) 0 128 ≡ Some (mk b x)
+table_first mk t b x lt is = from (λ k. option_map (mk k) (t k)) 0 128 b (mk b x) (omega arith) (omega arith) (ap (option_map (mk b)) is.0) (λ j h. ap (option_map (mk j)) (is.1 j h))
 
 pub table_none : {X : Type 0} (mk : ℕ → X → Message) (t : ℕ → Option X) → ((k : ℕ) → t k ≡ None) → lowest (λ k. option_map (mk k) (t k)) 0 128 ≡ None
 table_none mk t is = none_from (λ k. option_map (mk k) (t k)) 0 128 (λ j. ap (option_map (mk j)) (is j))
@@ -27,8 +27,8 @@ table_none mk t is = none_from (λ k. option_map (mk k) (t k)) 0 128 (λ j. ap (
 pub set_first : (mk : ℕ → Message) (bits b : ℕ) → b < 128 → has bits b ≡ true → ((k : ℕ) → k < b → has bits k ≡ false) → lowest (λ k. cond (member bits k) (Some (mk k)) None) 0 128 ≡ Some (mk b)
 set_first mk bits b lt here below = from (λ k. cond (member bits k) (Some (mk k)) None) 0 128 b (mk b) (omega arith) (omega arith) (grind (arith, nat_tests, lt, here)) (λ j h. grind (arith, nat_tests, below j h))
 
-pub set-none : (mk : ℕ → Message) (bits : ℕ) → ((k : ℕ) → k < 128 → has bits k ≡ false) → lowest (λ k. cond (member bits k) (Some (mk k)) None) 0 128 ≡ None
-set-none mk bits is = none_from (λ k. cond (member bits k) (Some (mk k)) None) 0 128 (λ j. elim (dec_lt j 128) [ yes h ↦ grind (arith, nat_tests, is j h) | no h ↦ grind (arith, nat_tests, h) ])
+pub set_none : (mk : ℕ → Message) (bits : ℕ) → ((k : ℕ) → k < 128 → has bits k ≡ false) → lowest (λ k. cond (member bits k) (Some (mk k)) None) 0 128 ≡ None
+set_none mk bits is = none_from (λ k. cond (member bits k) (Some (mk k)) None) 0 128 (λ j. elim (dec_lt j 128) [ yes h ↦ grind (arith, nat_tests, is j h) | no h ↦ grind (arith, nat_tests, h) ])
 
 -- a kind of message leaves only where those before it have nothing
 pub second : (w : Waits) (m : Message) → w.hello ≡ false → lowest (link_acks_for w) 0 128 ≡ Some m → Some m ≡ next_of w

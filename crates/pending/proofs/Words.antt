@@ -68,14 +68,14 @@ chosen w kind m p r = (
       ],
 )
 
-no-hello : (w : Waits) → at w 0 0 ≡ None → Passed w 1
-no-hello w e k lt b h = let z : 0 ≡ k = omega arith in subst (λ i. at w i b ≡ None) z e
+no_hello : (w : Waits) → at w 0 0 ≡ None → Passed w 1
+no_hello w e k lt b h = let z : 0 ≡ k = omega arith in subst (λ i. at w i b ≡ None) z e
 
 pub lowest-first : LowestFirst
 lowest-first w m e =
     elim (either (at w 0 0) _ m e) [
       | inl h ↦ chosen w 0 m (λ k lt b _. absurd (omega arith)) (record { place = 0; low = omega arith; here = h; below = λ j _ lt. absurd (omega arith) })
-      | inr r1 ↦ let p1 = no-hello w r1.0 in elim (either (lowest (at w 1) 0 128) _ m r1.1) [
+      | inr r1 ↦ let p1 = no_hello w r1.0 in elim (either (lowest (at w 1) 0 128) _ m r1.1) [
         | inl h ↦ chosen w 1 m p1 (found (at w 1) 0 128 m h)
         | inr r2 ↦ let p2 = more w 1 p1 r2.0 in elim (either (lowest (at w 2) 0 128) _ m r2.1) [
           | inl h ↦ chosen w 2 m p2 (found (at w 2) 0 128 m h)
@@ -101,7 +101,7 @@ none_left w e k b h =
     let r2 = neither (lowest (at w 1) 0 128) (or_else (lowest (at w 2) 0 128) (or_else (lowest (at w 3) 0 128) (lowest (at w 4) 0 128))) r1.1 in
     let r3 = neither (lowest (at w 2) 0 128) (or_else (lowest (at w 3) 0 128) (lowest (at w 4) 0 128)) r2.1 in
     let r4 = neither (lowest (at w 3) 0 128) (lowest (at w 4) 0 128) r3.1 in
-    let all : Passed w 5 = more w 4 (more w 3 (more w 2 (more w 1 (no-hello w r1.0) r2.0) r3.0) r4.0) r4.1 in
+    let all : Passed w 5 = more w 4 (more w 3 (more w 2 (more w 1 (no_hello w r1.0) r2.0) r3.0) r4.0) r4.1 in
     elim (dec_lt k 5) [ yes lt ↦ all k lt b h | no ge ↦ beyond w k b (omega arith) ]
 
 -- What "newer" has to be: two that are each not newer than the next are so together, and so are two that are.
@@ -154,8 +154,8 @@ best newer o t b s (x ∷ xs) e = go (newer x s) refl (λ s' f. best newer o (no
           ];
         }
 
-only-newest : {X : Type 0} (newer : X → X → Bool) → Order newer → OnlyNewest newer
-only-newest newer o t b x xs e =
+only_newest : {X : Type 0} (newer : X → X → Bool) → Order newer → OnlyNewest newer
+only_newest newer o t b x xs e =
     let r = best newer o (noted newer b x t) b x xs (rw (eq-eqb b b refl) (rw e refl)) in
     (r.best, r.waits, r.one, r.none)
 
@@ -165,5 +165,5 @@ later-order = record { self = λ x. grind (arith, nat_tests); up = λ x y z p q.
 higher-order : Order higher
 higher-order = record { self = λ x. grind (arith, nat_tests); up = λ x y z p q. grind (arith, nat_tests); down = λ x y z p q. grind (arith, nat_tests) }
 
-pub only-the-newest : OnlyTheNewest
-only-the-newest = (only-newest later later-order, only-newest higher higher-order)
+pub only_the_newest : OnlyTheNewest
+only_the_newest = (only_newest later later-order, only_newest higher higher-order)

@@ -32,11 +32,11 @@ pub onward-step : (H : ℕ → Bool) (port : ℕ → Kind) (c p : ℕ) →
 onward-step H port c p = step_by H port c p (port p)
 
 -- the flags with that of the lowest port to c set, if there is one
-pub mark-chosen : (port : ℕ → Kind) (c : ℕ) (flags : List Bool) (q : Option PortId) → length flags ≡ 16 →
+pub mark_chosen : (port : ℕ → Kind) (c : ℕ) (flags : List Bool) (q : Option PortId) → length flags ≡ 16 →
     MatchOption q (none_below port c 16 ≡ true) (λ p. (leads_to (port p.value) c ≡ true) × (none_below port c p.value ≡ true)) →
     (p : ℕ) → p < 16 → get_or (marked flags q) p false ≡ (chosen port c p || get_or flags p false)
-mark-chosen port c flags None l e p h = let z : leads_to (port p) c ≡ false = none_below_lem port c 16 p e h in grind (arith, nat_tests)
-mark-chosen port c flags (Some i) l e p h = elim (ℕ_discrete p i.value) [
+mark_chosen port c flags None l e p h = let z : leads_to (port p) c ≡ false = none_below_lem port c 16 p e h in grind (arith, nat_tests)
+mark_chosen port c flags (Some i) l e p h = elim (ℕ_discrete p i.value) [
   | yes q ↦ subst (λ n. get_or (set flags i.value true) n false ≡ (chosen port c n || get_or flags n false)) (sym q)
       (let same : get_or (set flags i.value true) i.value false ≡ true = get_or-set_same flags i.value true false (subst (λ n. i.value < n) (sym l) i.ok) in
       grind (arith, nat_tests, e.0, e.1))
@@ -76,7 +76,7 @@ one_more H R R' port c d F F' q lt dc i rc b f r =
       ap length f ∙ (length_marked F q ∙ i.0),
       (λ k h. grind (arith, nat_tests, i.1 k h, r k h)),
       (λ p h. let hc : H c ≡ true = grind (arith, nat_tests, i.1 c lt) in
-          let m = mark-chosen port c F q i.0 b p h in
+          let m = mark_chosen port c F q i.0 b p h in
           let o = onward-step H port c p in
           let x : get_or F' p false ≡ get_or (marked F q) p false = ap (λ l. get_or l p false) f in
           x ∙ (m ∙ (ap (λ v. chosen port c p || v) (i.2 p h) ∙ (ap (λ v. (v && chosen port c p) || onward (λ k. ltb k c && H k) port p) (sym hc) ∙ sym o)))),

@@ -47,11 +47,11 @@ record With (h : History) (p : Port) (left came : List (List ℕ)) : Type 0 wher
   gone : h.left ≡ left
   arrived : h.came ≡ came
 
-out-with : (o : Option Output) (h : History) (p : Port) (left came : List (List ℕ)) → ((f : List ℕ) → o ≡ Some (Carries f) → take 1 p.frames ≡ f ∷ []) → With h p left came → With (history (row_out o) h) (without_out o p) (left ++ frames_out o) came
+out_with : (o : Option Output) (h : History) (p : Port) (left came : List (List ℕ)) → ((f : List ℕ) → o ≡ Some (Carries f) → take 1 p.frames ≡ f ∷ []) → With h p left came → With (history (row_out o) h) (without_out o p) (left ++ frames_out o) came
 unfolding row_out history happens
-out-with None h p left came is w = record { waits = w.waits; gone = w.gone ∙ sym (append-nil left); arrived = w.arrived }
-out-with (Some (Says m)) h p left came is w = record { waits = w.waits; gone = w.gone ∙ sym (append-nil left); arrived = w.arrived }
-out-with (Some (Carries f)) h p left came is w =
+out_with None h p left came is w = record { waits = w.waits; gone = w.gone ∙ sym (append-nil left); arrived = w.arrived }
+out_with (Some (Says m)) h p left came is w = record { waits = w.waits; gone = w.gone ∙ sym (append-nil left); arrived = w.arrived }
+out_with (Some (Carries f)) h p left came is w =
     let one : take 1 h.waits ≡ f ∷ [] = ap (take 1) w.waits ∙ is f refl in
     record { waits = ap (drop 1) w.waits; gone = ap (λ xs. xs ++ take 1 h.waits) w.gone ∙ ap (λ xs. left ++ xs) one; arrived = w.arrived }
 
@@ -63,18 +63,18 @@ unfolding row_event row_out history happens arriving
 step-with (Comes f) h p left came w = record { waits = ap (row.after (row.Comes f)) w.waits; gone = w.gone ∙ sym (append-nil left); arrived = ap (λ xs. xs ++ f ∷ []) w.arrived }
 step-with (Tells x) h p left came w = record { waits = w.waits; gone = w.gone ∙ sym (append-nil left); arrived = w.arrived ∙ sym (append-nil came) }
 step-with Leaves h p left came w =
-    let o = out-with (out_of p) h p left came (λ f e. (from (next_of p.control) p f e).1) w in
+    let o = out_with (out_of p) h p left came (λ f e. (from (next_of p.control) p f e).1) w in
     record { waits = o.waits; gone = o.gone; arrived = o.arrived ∙ sym (append-nil came) }
 step-with Ticks h p left came w = record { waits = w.waits; gone = w.gone ∙ sym (append-nil left); arrived = w.arrived ∙ sym (append-nil came) }
 step-with Clears h p left came w = record { waits = refl; gone = w.gone ∙ sym (append-nil left); arrived = w.arrived ∙ sym (append-nil came) }
 
-come-more : (e : Event) (es : List Event) → frames_come (e ∷ es) ≡ arriving e ++ frames_come es
+come_more : (e : Event) (es : List Event) → frames_come (e ∷ es) ≡ arriving e ++ frames_come es
 unfolding arriving
-come-more (Comes f) es = refl
-come-more (Tells w) es = refl
-come-more Leaves es = refl
-come-more Ticks es = refl
-come-more Clears es = refl
+come_more (Comes f) es = refl
+come_more (Tells w) es = refl
+come_more Leaves es = refl
+come_more Ticks es = refl
+come_more Clears es = refl
 
 run-with : (es : List Event) (h : History) (p : Port) (left came : List (List ℕ)) → With h p left came → With (history (row_events es p) h) (run es p) (left ++ frames_leave es p) (came ++ frames_come es)
 unfolding row_events history run frames_leave
@@ -85,11 +85,11 @@ run-with (e ∷ es) h p left came w =
     record {
       waits = ap (λ (x : History). x.waits) t ∙ r.waits;
       gone = ap (λ (x : History). x.left) t ∙ r.gone ∙ append_assoc left (leaving e p) (frames_leave es (step e p));
-      arrived = ap (λ (x : History). x.came) t ∙ r.arrived ∙ append_assoc came (arriving e) (frames_come es) ∙ ap (λ xs. came ++ xs) (sym (come-more e es));
+      arrived = ap (λ (x : History). x.came) t ∙ r.arrived ∙ append_assoc came (arriving e) (frames_come es) ∙ ap (λ xs. came ++ xs) (sym (come_more e es));
     }
 
-pub port-order : PortOrder
-port-order es =
+pub port_order : PortOrder
+port_order es =
     let w = run-with es begin idle [] [] (record { waits = refl; gone = refl; arrived = refl }) in
     let a = in_order (row_events es idle) in
     subst (λ xs. row.Among (xs ++ (run es idle).frames) (frames_come es)) w.gone (subst (λ xs. row.Among ((history (row_events es idle) begin).left ++ xs) (frames_come es)) w.waits (subst (λ xs. row.Among ((history (row_events es idle) begin).left ++ (history (row_events es idle) begin).waits) xs) w.arrived a))
@@ -114,5 +114,5 @@ count-run (e ∷ es) p n q h = let s = count-step e p n q h in count-run es (ste
 pub within_64 : Within64
 within_64 es = count-run es idle 0 refl (omega arith)
 
-pub messages-first : MessagesFirst
-messages-first p f e = none_left p.control (from (next_of p.control) p f e).0
+pub messages_first : MessagesFirst
+messages_first p f e = none_left p.control (from (next_of p.control) p f e).0

@@ -7,40 +7,40 @@ use Rattle.rows.specs.Events.{Event, Comes, Leaves, Clears, takes, History, begi
 abbrev Frames : Type 0
 Frames = List (List ℕ)
 
-among-more : {xs ys : Frames} → (f : List ℕ) → Among xs ys → Among xs (ys ++ f ∷ [])
-among-more f none = but none
-among-more f (but a) = but (among-more f a)
-among-more f (too a) = too (among-more f a)
+among_more : {xs ys : Frames} → (f : List ℕ) → Among xs ys → Among xs (ys ++ f ∷ [])
+among_more f none = but none
+among_more f (but a) = but (among_more f a)
+among_more f (too a) = too (among_more f a)
 
-among-both : {xs ys : Frames} → (f : List ℕ) → Among xs ys → Among (xs ++ f ∷ []) (ys ++ f ∷ [])
-among-both f none = too none
-among-both f (but a) = but (among-both f a)
-among-both f (too a) = too (among-both f a)
+among_both : {xs ys : Frames} → (f : List ℕ) → Among xs ys → Among (xs ++ f ∷ []) (ys ++ f ∷ [])
+among_both f none = too none
+among_both f (but a) = but (among_both f a)
+among_both f (too a) = too (among_both f a)
 
-among-nothing : (ys : Frames) → Among [] ys
-among-nothing [] = none
-among-nothing (y ∷ ys) = but (among-nothing ys)
+among_nothing : (ys : Frames) → Among [] ys
+among_nothing [] = none
+among_nothing (y ∷ ys) = but (among_nothing ys)
 
 -- a front of what is among ys is among ys
-among-front : (xs zs : Frames) {ws ys : Frames} → ws ≡ xs ++ zs → Among ws ys → Among xs ys
-among-front [] zs e a = among-nothing _
-among-front (x ∷ xs) zs e none = absurd (grind arith)
-among-front (x ∷ xs) zs e (but a) = but (among-front (x ∷ xs) zs e a)
-among-front (x ∷ xs) zs e (too {ys = ys} {y = y} a) =
+among_front : (xs zs : Frames) {ws ys : Frames} → ws ≡ xs ++ zs → Among ws ys → Among xs ys
+among_front [] zs e a = among_nothing _
+among_front (x ∷ xs) zs e none = absurd (grind arith)
+among_front (x ∷ xs) zs e (but a) = but (among_front (x ∷ xs) zs e a)
+among_front (x ∷ xs) zs e (too {ys = ys} {y = y} a) =
     let same : y ≡ x = cc in
-    let rest = among-front xs zs (cc) a in
+    let rest = among_front xs zs (cc) a in
     subst (λ v. Among (x ∷ xs) (v ∷ ys)) (sym same) (too rest)
 
-among-long : {xs ys : Frames} → Among xs ys → length xs ≤ length ys
-among-long none = omega arith
-among-long (but a) = let h = among-long a in omega arith
-among-long (too a) = let h = among-long a in omega arith
+among_long : {xs ys : Frames} → Among xs ys → length xs ≤ length ys
+among_long none = omega arith
+among_long (but a) = let h = among_long a in omega arith
+among_long (too a) = let h = among_long a in omega arith
 
 -- all of them: no more, no fewer
-among-all : {xs ys : Frames} → Among xs ys → length xs ≡ length ys → xs ≡ ys
-among-all none e = refl
-among-all (but a) e = absurd (let h = among-long a in omega arith)
-among-all (too {y = y} a) e = ap (λ zs. y ∷ zs) (among-all a (omega arith))
+among_all : {xs ys : Frames} → Among xs ys → length xs ≡ length ys → xs ≡ ys
+among_all none e = refl
+among_all (but a) e = absurd (let h = among_long a in omega arith)
+among_all (too {y = y} a) e = ap (λ zs. y ∷ zs) (among_all a (omega arith))
 
 record Kept (h : History) : Type 0 where
   order : Among (h.left ++ h.waits) h.came
@@ -53,11 +53,11 @@ comes f h true e k =
     let long = length_push h.waits f in
     let came = length_push h.came f in
     let old = k.count in
-    record { order = rw append_assoc at (among-both f k.order); count = omega arith; small = omega arith }
+    record { order = rw append_assoc at (among_both f k.order); count = omega arith; small = omega arith }
 comes f h false e k =
     let came = length_push h.came f in
     let old = k.count in
-    record { order = among-more f k.order; count = omega arith; small = k.small }
+    record { order = among_more f k.order; count = omega arith; small = k.small }
 
 keeps : (e : Event) (h : History) → Kept h → Kept (happens e h)
 unfolding happens
@@ -73,15 +73,15 @@ keeps Leaves h k =
     record { order = subst (λ ws. Among ws h.came) (sym all) k.order; count = omega arith; small = omega arith }
 keeps Clears h k =
     let old = k.count in
-    record { order = rw append-nil (among-front h.left h.waits refl k.order); count = omega arith; small = omega arith }
+    record { order = rw append-nil (among_front h.left h.waits refl k.order); count = omega arith; small = omega arith }
 
-keeps-all : (es : List Event) (h : History) → Kept h → Kept (history es h)
+keeps_all : (es : List Event) (h : History) → Kept h → Kept (history es h)
 unfolding history
-keeps-all [] h k = k
-keeps-all (e ∷ es) h k = keeps-all es (happens e h) (keeps e h k)
+keeps_all [] h k = k
+keeps_all (e ∷ es) h k = keeps_all es (happens e h) (keeps e h k)
 
 always : (es : List Event) → Kept (history es begin)
-always es = keeps-all es begin (record { order = none; count = omega arith; small = omega arith })
+always es = keeps_all es begin (record { order = none; count = omega arith; small = omega arith })
 
 pub in_order : InOrder
 in_order es = (always es).order
@@ -89,13 +89,13 @@ in_order es = (always es).order
 pub accounted : Accounted
 accounted es = (always es).count
 
-pub nothing-lost : NothingLost
-nothing-lost es fit kept =
+pub nothing_lost : NothingLost
+nothing_lost es fit kept =
     let k = always es in
     let h = history es begin in
     let both = length-append h.left h.waits in
     let old = k.count in
-    among-all k.order (omega arith)
+    among_all k.order (omega arith)
 
-pub never-above-16 : NeverAbove16
-never-above-16 es = (always es).small
+pub never_above_16 : NeverAbove16
+never_above_16 es = (always es).small

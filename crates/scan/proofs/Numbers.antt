@@ -10,17 +10,17 @@ grows v [] = omega arith
 grows v (d ∷ ds) = omega (arith, grows (v * 10 + (d - 48)) ds)
 
 module _ (low high : ℕ) (w : List ℕ) where
-  pub no-digits : is_digits w ≡ false → None ≡ number_in low high w
+  pub no_digits : is_digits w ≡ false → None ≡ number_in low high w
   unfolding number_in
-  no-digits e = grind (arith, nat_tests)
+  no_digits e = grind (arith, nat_tests)
 
-  pub too-high : high < value_after 0 w → None ≡ number_in low high w
+  pub too_high : high < value_after 0 w → None ≡ number_in low high w
   unfolding number_in
-  too-high e = grind (arith, nat_tests)
+  too_high e = grind (arith, nat_tests)
 
-  pub too-low : value_after 0 w < low → None ≡ number_in low high w
+  pub too_low : value_after 0 w < low → None ≡ number_in low high w
   unfolding number_in
-  too-low e = grind (arith, nat_tests)
+  too_low e = grind (arith, nat_tests)
 
   pub in-range : (v : ℕ) → is_digits w ≡ true → v ≡ value_after 0 w → low ≤ v → v ≤ high → Some v ≡ number_in low high w
   unfolding number_in

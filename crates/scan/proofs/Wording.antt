@@ -8,46 +8,46 @@ use Rattle.scan.specs.Bytes.{all, blank, is_of}
 use Rattle.scan.specs.Words.{words_of, before, skipped, after_of, first_of}
 
 module _ (p : ℕ → Bool) (b : ℕ) (bs : List ℕ) where
-  lead-yes : p b ≡ true → prefix_len p (b ∷ bs) ≡ suc (prefix_len p bs)
-  lead-yes e = cond-true (p b) (1 + prefix_len p bs) 0 e ∙ one-add _
+  lead_yes : p b ≡ true → prefix_len p (b ∷ bs) ≡ suc (prefix_len p bs)
+  lead_yes e = cond-true (p b) (1 + prefix_len p bs) 0 e ∙ one-add _
 
-  lead-no : p b ≡ false → prefix_len p (b ∷ bs) ≡ 0
-  lead-no e = cond-false (p b) (1 + prefix_len p bs) 0 e
+  lead_no : p b ≡ false → prefix_len p (b ∷ bs) ≡ 0
+  lead_no e = cond-false (p b) (1 + prefix_len p bs) 0 e
 
   drop-yes : p b ≡ true → drop (prefix_len p (b ∷ bs)) (b ∷ bs) ≡ drop (prefix_len p bs) bs
-  drop-yes e = ap (λ n. drop n (b ∷ bs)) (lead-yes e)
+  drop-yes e = ap (λ n. drop n (b ∷ bs)) (lead_yes e)
 
   drop-no : p b ≡ false → drop (prefix_len p (b ∷ bs)) (b ∷ bs) ≡ b ∷ bs
-  drop-no e = ap (λ n. drop n (b ∷ bs)) (lead-no e)
+  drop-no e = ap (λ n. drop n (b ∷ bs)) (lead_no e)
 
   take-yes : p b ≡ true → take (prefix_len p (b ∷ bs)) (b ∷ bs) ≡ b ∷ take (prefix_len p bs) bs
-  take-yes e = ap (λ n. take n (b ∷ bs)) (lead-yes e)
+  take-yes e = ap (λ n. take n (b ∷ bs)) (lead_yes e)
 
   take_no : p b ≡ false → take (prefix_len p (b ∷ bs)) (b ∷ bs) ≡ []
-  take_no e = ap (λ n. take n (b ∷ bs)) (lead-no e)
+  take_no e = ap (λ n. take n (b ∷ bs)) (lead_no e)
 
-words-blank : (b : ℕ) (bs : List ℕ) → blank b ≡ true → words_of (b ∷ bs) ≡ words_of bs
+words_blank : (b : ℕ) (bs : List ℕ) → blank b ≡ true → words_of (b ∷ bs) ≡ words_of bs
 unfolding words_of
-words-blank b bs e = cond-true (blank b) _ _ e
+words_blank b bs e = cond-true (blank b) _ _ e
 
-words-solid : (b : ℕ) (bs : List ℕ) → blank b ≡ false → words_of (b ∷ bs) ≡ before b bs (words_of bs)
+words_solid : (b : ℕ) (bs : List ℕ) → blank b ≡ false → words_of (b ∷ bs) ≡ before b bs (words_of bs)
 unfolding words_of
-words-solid b bs e = cond-false (blank b) _ _ e
+words_solid b bs e = cond-false (blank b) _ _ e
 
-words-none : words_of [] ≡ []
+words_none : words_of [] ≡ []
 unfolding words_of
-words-none = refl
+words_none = refl
 
 not-blank : (b : ℕ) (t : Bool) → blank b ≡ t → is_of Solid b ≡ not t
 not-blank b t e = ap not e
 
 -- blanks in front are no part of a word
-words-skip : (bs : List ℕ) → words_of bs ≡ words_of (skipped bs)
-words-skip [] = refl
-words-skip (b ∷ bs) = go (blank b) refl (words-skip bs)
+words_skip : (bs : List ℕ) → words_of bs ≡ words_of (skipped bs)
+words_skip [] = refl
+words_skip (b ∷ bs) = go (blank b) refl (words_skip bs)
   where
     go : (t : Bool) → blank b ≡ t → words_of bs ≡ words_of (skipped bs) → words_of (b ∷ bs) ≡ words_of (skipped (b ∷ bs))
-    go true e h = words-blank b bs e ∙ h ∙ ap words_of (sym (drop-yes (is_of Blank) b bs e))
+    go true e h = words_blank b bs e ∙ h ∙ ap words_of (sym (drop-yes (is_of Blank) b bs e))
     go false e h = ap words_of (sym (drop-no (is_of Blank) b bs e))
 
 -- a line from its next word on has a word in front
@@ -70,9 +70,9 @@ before-solid b c bs w ws e = cond-false (blank c) _ _ e
 abbrev solid : ℕ → Bool
 solid = is_of Solid
 
-words-word : (b : ℕ) (bs : List ℕ) → blank b ≡ false → words_of (b ∷ bs) ≡ take (prefix_len solid (b ∷ bs)) (b ∷ bs) ∷ words_of (drop (prefix_len solid (b ∷ bs)) (b ∷ bs))
-words-word b [] e = rw (take-yes solid b [] (not-blank b false e), drop-yes solid b [] (not-blank b false e)) (words-solid b [] e)
-words-word b (c ∷ cs) e = rw (take-yes solid b (c ∷ cs) (not-blank b false e), drop-yes solid b (c ∷ cs) (not-blank b false e)) (words-solid b (c ∷ cs) e ∙ go (blank c) refl (words-word c cs))
+words_word : (b : ℕ) (bs : List ℕ) → blank b ≡ false → words_of (b ∷ bs) ≡ take (prefix_len solid (b ∷ bs)) (b ∷ bs) ∷ words_of (drop (prefix_len solid (b ∷ bs)) (b ∷ bs))
+words_word b [] e = rw (take-yes solid b [] (not-blank b false e), drop-yes solid b [] (not-blank b false e)) (words_solid b [] e)
+words_word b (c ∷ cs) e = rw (take-yes solid b (c ∷ cs) (not-blank b false e), drop-yes solid b (c ∷ cs) (not-blank b false e)) (words_solid b (c ∷ cs) e ∙ go (blank c) refl (words_word c cs))
   where
     go : (t : Bool) → blank c ≡ t → (blank c ≡ false → words_of (c ∷ cs) ≡ take (prefix_len solid (c ∷ cs)) (c ∷ cs) ∷ words_of (drop (prefix_len solid (c ∷ cs)) (c ∷ cs))) → before b (c ∷ cs) (words_of (c ∷ cs)) ≡ (b ∷ take (prefix_len solid (c ∷ cs)) (c ∷ cs)) ∷ words_of (drop (prefix_len solid (c ∷ cs)) (c ∷ cs))
     go true k h = rw (take_no solid c cs (not-blank c true k), drop-no solid c cs (not-blank c true k)) (before-blank b c cs (words_of (c ∷ cs)) k)
@@ -82,7 +82,7 @@ pub no_word : (bs : List ℕ) → length (first_of bs) ≡ 0 → words_of bs ≡
 no_word bs e = go (skipped-shape bs)
   where
     go : (skipped bs ≡ []) ⊎ ((b : ℕ) × (cs : List ℕ) × (skipped bs ≡ b ∷ cs) × (blank b ≡ false)) → words_of bs ≡ []
-    go (inl h) = words-skip bs ∙ ap words_of h ∙ words-none
+    go (inl h) = words_skip bs ∙ ap words_of h ∙ words_none
     go (inr (b, cs, h, k)) = absurd (
         let z : take (prefix_len solid (skipped bs)) (skipped bs) ≡ b ∷ take (prefix_len solid cs) cs = ap (λ s. take (prefix_len solid s) s) h ∙ take-yes solid b cs (not-blank b false k) in
         omega (arith, ap length z)
@@ -92,7 +92,7 @@ pub none_after : (bs : List ℕ) → length (first_of bs) ≡ 0 → words_of (af
 none_after bs e = go (skipped-shape bs)
   where
     go : (skipped bs ≡ []) ⊎ ((b : ℕ) × (cs : List ℕ) × (skipped bs ≡ b ∷ cs) × (blank b ≡ false)) → words_of (after_of bs) ≡ []
-    go (inl h) = ap (λ s. words_of (drop (prefix_len solid s) s)) h ∙ words-none
+    go (inl h) = ap (λ s. words_of (drop (prefix_len solid s) s)) h ∙ words_none
     go (inr (b, cs, h, k)) = absurd (
         let z : take (prefix_len solid (skipped bs)) (skipped bs) ≡ b ∷ take (prefix_len solid cs) cs = ap (λ s. take (prefix_len solid s) s) h ∙ take-yes solid b cs (not-blank b false k) in
         omega (arith, ap length z)
@@ -103,7 +103,7 @@ next_word bs e = go (skipped-shape bs)
   where
     go : (skipped bs ≡ []) ⊎ ((b : ℕ) × (cs : List ℕ) × (skipped bs ≡ b ∷ cs) × (blank b ≡ false)) → words_of bs ≡ first_of bs ∷ words_of (after_of bs)
     go (inl h) = absurd (e (ap (λ s. length (take (prefix_len solid s) s)) h))
-    go (inr (b, cs, h, k)) = words-skip bs ∙ subst (λ s. words_of s ≡ take (prefix_len solid s) s ∷ words_of (drop (prefix_len solid s) s)) (sym h) (words-word b cs k)
+    go (inr (b, cs, h, k)) = words_skip bs ∙ subst (λ s. words_of s ≡ take (prefix_len solid s) s ∷ words_of (drop (prefix_len solid s) s)) (sym h) (words_word b cs k)
 
 pub cut_word : (bs s : List ℕ) {f r : List ℕ} {n : ℕ} → s ≡ skipped bs → n ≡ prefix_len solid s → f ≡ take n s → r ≡ drop n s → (f ≡ first_of bs) × (r ≡ after_of bs)
 cut_word bs s hs hn hf hr = (
@@ -117,5 +117,5 @@ all-leading p [] = refl
 all-leading p (b ∷ bs) = go (p b) refl (all-leading p bs)
   where
     go : (t : Bool) → p b ≡ t → all p bs ≡ eqb (prefix_len p bs) (length bs) → (p b && all p bs) ≡ eqb (prefix_len p (b ∷ bs)) (suc (length bs))
-    go true e h = grind (arith, nat_tests, lead-yes p b bs e)
-    go false e h = grind (arith, nat_tests, lead-no p b bs e)
+    go true e h = grind (arith, nat_tests, lead_yes p b bs e)
+    go false e h = grind (arith, nat_tests, lead_no p b bs e)

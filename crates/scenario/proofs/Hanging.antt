@@ -17,13 +17,13 @@ pub linked-step : (p : ℕ) (ns : List Node) (n c : ℕ) (b x r : Bool) → b �
 unfolding linked
 linked-step p ns n c b x r e f g = g ∙ ap (λ y. b || y) f ∙ ap (λ y. y || leads_to (link_kind ns (at_port n p)) c) e ∙ sym (ap (λ k. linked k ns n c) (add-one p))
 
-pub hang-none : (ns : List Node) (t : Tree) → all_hang 0 ns t ≡ true
+pub hang_none : (ns : List Node) (t : Tree) → all_hang 0 ns t ≡ true
 unfolding all_hang
-hang-none ns t = refl
+hang_none ns t = refl
 
-pub hang-step : (n : ℕ) (ns : List Node) (t : Tree) (b x r : Bool) → b ≡ all_hang n ns t → x ≡ hangs ns t n → r ≡ (b && x) → r ≡ all_hang (n + 1) ns t
+pub hang_step : (n : ℕ) (ns : List Node) (t : Tree) (b x r : Bool) → b ≡ all_hang n ns t → x ≡ hangs ns t n → r ≡ (b && x) → r ≡ all_hang (n + 1) ns t
 unfolding all_hang
-hang-step n ns t b x r e f g = g ∙ ap (λ y. b && y) f ∙ ap (λ y. y && hangs ns t n) e ∙ sym (ap (λ k. all_hang k ns t) (add-one n))
+hang_step n ns t b x r e f g = g ∙ ap (λ y. b && y) f ∙ ap (λ y. y && hangs ns t n) e ∙ sym (ap (λ k. all_hang k ns t) (add-one n))
 
 pub tops-none : (ns : List Node) (t : Tree) → tops 0 ns t ≡ 0
 unfolding tops
@@ -33,10 +33,10 @@ pub tops_step : (n : ℕ) (ns : List Node) (t : Tree) (b r : ℕ) → b ≡ tops
 unfolding tops
 tops_step n ns t b r e f = ap (λ x. x + r) e ∙ ap (λ x. tops n ns t + x) f ∙ sym (ap (λ k. tops k ns t) (add-one n))
 
-pub hold-none : (bs : List (Option Bridge)) (ns : List Node) (q : ℕ) → all_hold 0 bs ns q ≡ true
+pub hold_none : (bs : List (Option Bridge)) (ns : List Node) (q : ℕ) → all_hold 0 bs ns q ≡ true
 unfolding all_hold
-hold-none bs ns q = refl
+hold_none bs ns q = refl
 
-pub hold-step : (n : ℕ) (bs : List (Option Bridge)) (ns : List Node) (q : ℕ) (b x r : Bool) → b ≡ all_hold n bs ns q → x ≡ holds_newest bs ns q n → r ≡ (b && x) → r ≡ all_hold (n + 1) bs ns q
+pub hold_step : (n : ℕ) (bs : List (Option Bridge)) (ns : List Node) (q : ℕ) (b x r : Bool) → b ≡ all_hold n bs ns q → x ≡ holds_newest bs ns q n → r ≡ (b && x) → r ≡ all_hold (n + 1) bs ns q
 unfolding all_hold
-hold-step n bs ns q b x r e f g = g ∙ ap (λ y. b && y) f ∙ ap (λ y. y && holds_newest bs ns q n) e ∙ sym (ap (λ k. all_hold k bs ns q) (add-one n))
+hold_step n bs ns q b x r e f g = g ∙ ap (λ y. b && y) f ∙ ap (λ y. y && holds_newest bs ns q n) e ∙ sym (ap (λ k. all_hold k bs ns q) (add-one n))

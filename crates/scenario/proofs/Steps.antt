@@ -7,13 +7,13 @@ use Rattle.forwarding.specs.Replies.{relinked}
 use Rattle.scenario.specs.Plans.{above_box, rises, up_from, depth_of, own_row, spread_one, spread}
 use Rattle.scenario.specs.Links.{relinked_all}
 
-pub own-none : own_row 0 ≡ replicate 128 0
+pub own_none : own_row 0 ≡ replicate 128 0
 unfolding own_row
-own-none = refl
+own_none = refl
 
-pub own-more : (b : ℕ) → own_row (b + 1) ≡ set (own_row b) b b
+pub own_more : (b : ℕ) → own_row (b + 1) ≡ set (own_row b) b b
 unfolding own_row
-own-more b = ap own_row (add-one b)
+own_more b = ap own_row (add-one b)
 
 pub spread_none : (ns : List Node) (vs row : List ℕ) → spread 0 ns vs row ≡ row
 unfolding spread
@@ -31,13 +31,13 @@ pub up_more : (k : ℕ) (ns : List Node) (ps : List ℕ) (n : ℕ) → up_from (
 unfolding up_from
 up_more k ns ps n = ap (λ j. up_from j ns ps n) (add-one k)
 
-pub depth-none : (ns : List Node) (ps : List ℕ) (n : ℕ) → depth_of 0 ns ps n ≡ 0
+pub depth_none : (ns : List Node) (ps : List ℕ) (n : ℕ) → depth_of 0 ns ps n ≡ 0
 unfolding depth_of
-depth-none ns ps n = refl
+depth_none ns ps n = refl
 
-pub depth-more : (k : ℕ) (ns : List Node) (ps : List ℕ) (n : ℕ) → depth_of (k + 1) ns ps n ≡ depth_of k ns ps n + rises ns ps (up_from k ns ps n)
+pub depth_more : (k : ℕ) (ns : List Node) (ps : List ℕ) (n : ℕ) → depth_of (k + 1) ns ps n ≡ depth_of k ns ps n + rises ns ps (up_from k ns ps n)
 unfolding depth_of
-depth-more k ns ps n = ap (λ j. depth_of j ns ps n) (add-one k)
+depth_more k ns ps n = ap (λ j. depth_of j ns ps n) (add-one k)
 
 pub relinked-none : (ls : List (Option Link)) (s : State) → relinked_all 0 ls s ≡ s
 unfolding relinked_all
@@ -53,8 +53,8 @@ relinked-step p ls l s t u g e f = f ∙ ap (relinked p l) e ∙ ap (λ k. relin
 pub up_step : (k : ℕ) (ns : List Node) (ps : List ℕ) (n at on : ℕ) → at ≡ up_from k ns ps n → on ≡ above_box ns ps at → on ≡ up_from (k + 1) ns ps n
 up_step k ns ps n at on e f = f ∙ ap (above_box ns ps) e ∙ sym (up_more k ns ps n)
 
-pub depth-step : (k : ℕ) (ns : List Node) (ps : List ℕ) (n at d r : ℕ) → at ≡ up_from k ns ps n → d ≡ depth_of k ns ps n → r ≡ rises ns ps at → d + r ≡ depth_of (k + 1) ns ps n
-depth-step k ns ps n at d r e f g = ap (λ x. x + r) f ∙ ap (λ x. depth_of k ns ps n + x) (g ∙ ap (rises ns ps) e) ∙ sym (depth-more k ns ps n)
+pub depth_step : (k : ℕ) (ns : List Node) (ps : List ℕ) (n at d r : ℕ) → at ≡ up_from k ns ps n → d ≡ depth_of k ns ps n → r ≡ rises ns ps at → d + r ≡ depth_of (k + 1) ns ps n
+depth_step k ns ps n at d r e f g = ap (λ x. x + r) f ∙ ap (λ x. depth_of k ns ps n + x) (g ∙ ap (rises ns ps) e) ∙ sym (depth_more k ns ps n)
 
 pub spread-step : (n : ℕ) (ns : List Node) (vs row at on : List ℕ) → at ≡ spread n ns vs row → on ≡ spread_one ns n (get_or vs n 0) at → on ≡ spread (n + 1) ns vs row
 spread-step n ns vs row at on e f = f ∙ ap (spread_one ns n (get_or vs n 0)) e ∙ sym (spread-more n ns vs row)

@@ -33,35 +33,35 @@ pub ended_some : {ws vs : List (List ℕ)} {w : List ℕ} → ws ≡ w ∷ vs �
 unfolding ended
 ended_some h = ap ended h
 
-pub name-yes : {ws vs : List (List ℕ)} {w : List ℕ} → ws ≡ w ∷ vs → is_name w ≡ true → part name_of expected.Name ws ≡ Ok w
+pub name_yes : {ws vs : List (List ℕ)} {w : List ℕ} → ws ≡ w ∷ vs → is_name w ≡ true → part name_of expected.Name ws ≡ Ok w
 unfolding part
-name-yes {w = w} h e = ap (part name_of expected.Name) h ∙ ap (λ o. options.ok_or o expected.Name) (cond-true (is_name w) (Some w) None e)
+name_yes {w = w} h e = ap (part name_of expected.Name) h ∙ ap (λ o. options.ok_or o expected.Name) (cond-true (is_name w) (Some w) None e)
 
-pub name-no : {ws vs : List (List ℕ)} {w : List ℕ} → ws ≡ w ∷ vs → is_name w ≡ false → part name_of expected.Name ws ≡ Err expected.Name
+pub name_no : {ws vs : List (List ℕ)} {w : List ℕ} → ws ≡ w ∷ vs → is_name w ≡ false → part name_of expected.Name ws ≡ Err expected.Name
 unfolding part
-name-no {w = w} h e = ap (part name_of expected.Name) h ∙ ap (λ o. options.ok_or o expected.Name) (cond-false (is_name w) (Some w) None e)
+name_no {w = w} h e = ap (part name_of expected.Name) h ∙ ap (λ o. options.ok_or o expected.Name) (cond-false (is_name w) (Some w) None e)
 
-pub ok-bound : (P : ℕ → Type 0) (e : Expected) (o : Option ℕ) {r : Result ℕ Expected} → IfSome o P → r ≡ options.ok_or o e → IfOk r P
-ok-bound P e None h k = subst (λ r. IfOk r P) (sym k) tt
-ok-bound P e (Some x) h k = subst (λ r. IfOk r P) (sym k) h
+pub ok_bound : (P : ℕ → Type 0) (e : Expected) (o : Option ℕ) {r : Result ℕ Expected} → IfSome o P → r ≡ options.ok_or o e → IfOk r P
+ok_bound P e None h k = subst (λ r. IfOk r P) (sym k) tt
+ok_bound P e (Some x) h k = subst (λ r. IfOk r P) (sym k) h
 
 pub part-is : {A : Type 0} (f : List ℕ → Option A) (e : Expected) {ws vs : List (List ℕ)} {w : List ℕ} {o : Option A} → ws ≡ w ∷ vs → f w ≡ o → part f e ws ≡ options.ok_or o e
 unfolding part
 part-is f e h i = ap (part f e) h ∙ ap (λ o. options.ok_or o e) i
 
-pub aim-all : (w : List ℕ) → bytes_eq w (codes "all") ≡ true → aim_of w ≡ Some everyone
-aim-all w e = cond-true _ _ _ e
+pub aim_all : (w : List ℕ) → bytes_eq w (codes "all") ≡ true → aim_of w ≡ Some everyone
+aim_all w e = cond-true _ _ _ e
 
-pub aim-name : (w : List ℕ) → bytes_eq w (codes "all") ≡ false → is_name w ≡ true → aim_of w ≡ Some (one w)
-aim-name w e k = cond-false (bytes_eq w (codes "all")) _ _ e ∙ cond-true (is_name w) _ _ k
+pub aim_name : (w : List ℕ) → bytes_eq w (codes "all") ≡ false → is_name w ≡ true → aim_of w ≡ Some (one w)
+aim_name w e k = cond-false (bytes_eq w (codes "all")) _ _ e ∙ cond-true (is_name w) _ _ k
 
-pub aim-none : (w : List ℕ) → bytes_eq w (codes "all") ≡ false → is_name w ≡ false → aim_of w ≡ None
-aim-none w e k = cond-false (bytes_eq w (codes "all")) _ _ e ∙ cond-false (is_name w) _ _ k
+pub aim_none : (w : List ℕ) → bytes_eq w (codes "all") ≡ false → is_name w ≡ false → aim_of w ≡ None
+aim_none w e k = cond-false (bytes_eq w (codes "all")) _ _ e ∙ cond-false (is_name w) _ _ k
 
-pub text-yes : (t u v : List ℕ) → t ≡ u → u ≡ v → between 2 1500 (length t) ≡ true → text_of v ≡ Ok t
+pub text_yes : (t u v : List ℕ) → t ≡ u → u ≡ v → between 2 1500 (length t) ≡ true → text_of v ≡ Ok t
 unfolding text_of
-text-yes t u v h k e = ap text_of (sym (h ∙ k)) ∙ cond-true (between 2 1500 (length t)) _ _ e
+text_yes t u v h k e = ap text_of (sym (h ∙ k)) ∙ cond-true (between 2 1500 (length t)) _ _ e
 
-pub text-no : (t u v : List ℕ) → t ≡ u → u ≡ v → between 2 1500 (length t) ≡ false → text_of v ≡ Err expected.Message
+pub text_no : (t u v : List ℕ) → t ≡ u → u ≡ v → between 2 1500 (length t) ≡ false → text_of v ≡ Err expected.Message
 unfolding text_of
-text-no t u v h k e = ap text_of (sym (h ∙ k)) ∙ cond-false (between 2 1500 (length t)) _ _ e
+text_no t u v h k e = ap text_of (sym (h ∙ k)) ∙ cond-false (between 2 1500 (length t)) _ _ e

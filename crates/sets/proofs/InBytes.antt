@@ -5,16 +5,16 @@ use lib.Pow.{field, mod-mod-pow}
 use Rattle.std.specs.List.{range_with_len}
 use Rattle.std.proofs.lemmas.List.FromFn.{get_or-map-range_with_len, fill_by_all, length-map-range_with_len}
 use Rattle.sets.specs.Sets.{bit, has, has_byte, bytes_of, made_of, number_of, Bytes16, ThereAndBack}
-use Rattle.sets.proofs.Members.{same-members}
+use Rattle.sets.proofs.Members.{same_members}
 
-bytes-are-bits : (q : ℕ) → 256 ^ q ≡ 2 ^ (8 * q)
-bytes-are-bits zero = refl
-bytes-are-bits (suc q) = omega (arith, pow-suc 256 q, bytes-are-bits q, ap (λ m. 2 ^ m) (mul-suc 8 q), pow-add 2 (8 * q) 8)
+bytes_are_bits : (q : ℕ) → 256 ^ q ≡ 2 ^ (8 * q)
+bytes_are_bits zero = refl
+bytes_are_bits (suc q) = omega (arith, pow-suc 256 q, bytes_are_bits q, ap (λ m. 2 ^ m) (mul-suc 8 q), pow-add 2 (8 * q) 8)
 
 -- bit j of byte q is bit 8 q + j
-byte-bit : (n q j : ℕ) → j < 8 → bit (n / 256 ^ q % 256) j ≡ bit n (8 * q + j)
-byte-bit n q j h =
-    rw (bytes-are-bits q) (
+byte_bit : (n q j : ℕ) → j < 8 → bit (n / 256 ^ q % 256) j ≡ bit n (8 * q + j)
+byte_bit n q j h =
+    rw (bytes_are_bits q) (
     let m : (7 - j) + 1 + j ≡ 8 = omega arith in
     let e : n / 2 ^ (8 * q) % 256 / 2 ^ j ≡ n / 2 ^ (8 * q) / 2 ^ j % 2 ^ ((7 - j) + 1) = subst (λ w. n / 2 ^ (8 * q) % 2 ^ w / 2 ^ j ≡ n / 2 ^ (8 * q) / 2 ^ j % 2 ^ ((7 - j) + 1)) m (field (n / 2 ^ (8 * q)) ((7 - j) + 1) j) in
     ap (λ x. x % 2) e ∙ mod-mod-pow (n / 2 ^ (8 * q) / 2 ^ j) (7 - j) 1 ∙ ap (λ x. x % 2) (shr-shr n (8 * q) j))
@@ -24,7 +24,7 @@ unfolding has has_byte bytes_of
 has-bytes s k h =
     let g : get_or (map (λ i. s / 256 ^ (15 - i) % 256) (range_with_len 0 16)) (k / 8) 0 ≡ s / 256 ^ (15 - k / 8) % 256 = get_or-map-range_with_len (λ i. s / 256 ^ (15 - i) % 256) 0 16 (k / 8) (k / 8) 0 (omega arith) (omega arith) in
     let p : 8 * (15 - k / 8) + (7 - k % 8) ≡ 127 - k = omega arith in
-    ap (λ x. eqb (bit x (7 - k % 8)) 1) g ∙ ap (λ x. eqb x 1) (byte-bit s (15 - k / 8) (7 - k % 8) (omega arith)) ∙ ap (λ j. eqb (bit s j) 1) p
+    ap (λ x. eqb (bit x (7 - k % 8)) 1) g ∙ ap (λ x. eqb x 1) (byte_bit s (15 - k / 8) (7 - k % 8) (omega arith)) ∙ ap (λ j. eqb (bit s j) 1) p
 
 -- each byte out of the number that bytes make
 byte_of : (bs : List ℕ) (n d i : ℕ) → ((j : ℕ) → j < n → get_or bs j 0 < 256) → suc i + d ≡ n → made_of n bs / 256 ^ d % 256 ≡ get_or bs i 0
@@ -34,9 +34,9 @@ byte_of bs (suc n) (suc d) i small e =
     let x : (made_of n bs * 256 + get_or bs n 0) / 256 ≡ made_of n bs = omega (arith, small n (omega arith)) in
     rw (pow-succ' 256 d) (rw (← div-div-eq-div-mul (made_of n bs * 256 + get_or bs n 0) 256 (256 ^ d)) (rw x (byte_of bs n d i (λ j h. small j (omega arith)) (omega arith))))
 
-made-below : (bs : List ℕ) (n : ℕ) → ((j : ℕ) → j < n → get_or bs j 0 < 256) → made_of n bs < 256 ^ n
-made-below bs zero small = omega arith
-made-below bs (suc n) small = omega (arith, pow-suc 256 n, made-below bs n (λ j h. small j (omega arith)), small n (omega arith))
+made_below : (bs : List ℕ) (n : ℕ) → ((j : ℕ) → j < n → get_or bs j 0 < 256) → made_of n bs < 256 ^ n
+made_below bs zero small = omega arith
+made_below bs (suc n) small = omega (arith, pow-suc 256 n, made_below bs n (λ j h. small j (omega arith)), small n (omega arith))
 
 pub bytes_back : (bs : List ℕ) → Bytes16 bs → bytes_of (number_of bs) ≡ bs
 unfolding bytes_of number_of
@@ -52,12 +52,12 @@ bytes16 s = record { many = length-map-range_with_len (λ i. s / 256 ^ (15 - i) 
     small : (i : ℕ) → i < 16 → get_or (map (λ i. s / 256 ^ (15 - i) % 256) (range_with_len 0 16)) i 0 < 256
     small i h = subst (λ x. x < 256) (sym (get_or-map-range_with_len (λ i. s / 256 ^ (15 - i) % 256) 0 16 i i 0 h (omega arith))) (omega arith)
 
-pub number-below : (bs : List ℕ) → Bytes16 bs → number_of bs < 2 ^ 128
+pub number_below : (bs : List ℕ) → Bytes16 bs → number_of bs < 2 ^ 128
 unfolding number_of
-number-below bs b = made-below bs 16 b.small
+number_below bs b = made_below bs 16 b.small
 
-pub number-back : (s : ℕ) → s < 2 ^ 128 → number_of (bytes_of s) ≡ s
-number-back s h = same-members (number_of (bytes_of s)) s (number-below (bytes_of s) (bytes16 s)) h (λ k l. has-number (bytes_of s) k (bytes16 s) l ∙ has-bytes s k l)
+pub number_back : (s : ℕ) → s < 2 ^ 128 → number_of (bytes_of s) ≡ s
+number_back s h = same_members (number_of (bytes_of s)) s (number_below (bytes_of s) (bytes16 s)) h (λ k l. has-number (bytes_of s) k (bytes16 s) l ∙ has-bytes s k l)
 
 pub there_and_back : ThereAndBack
-there_and_back = (number-back, bytes_back)
+there_and_back = (number_back, bytes_back)

@@ -15,23 +15,23 @@ xor : Bool → Bool → Bool
 xor true b = not b
 xor false b = b
 
-and-test : (p q : ℕ) → p < 2 → q < 2 → eqb (bit_and p q) 1 ≡ (eqb p 1 && eqb q 1)
-and-test zero zero h l = refl
-and-test zero (suc zero) h l = refl
-and-test (suc zero) zero h l = refl
-and-test (suc zero) (suc zero) h l = refl
-and-test (suc (suc p)) q h l = absurd (omega arith)
-and-test zero (suc (suc q)) h l = absurd (omega arith)
-and-test (suc zero) (suc (suc q)) h l = absurd (omega arith)
+and_test : (p q : ℕ) → p < 2 → q < 2 → eqb (bit_and p q) 1 ≡ (eqb p 1 && eqb q 1)
+and_test zero zero h l = refl
+and_test zero (suc zero) h l = refl
+and_test (suc zero) zero h l = refl
+and_test (suc zero) (suc zero) h l = refl
+and_test (suc (suc p)) q h l = absurd (omega arith)
+and_test zero (suc (suc q)) h l = absurd (omega arith)
+and_test (suc zero) (suc (suc q)) h l = absurd (omega arith)
 
-or-test : (p q : ℕ) → p < 2 → q < 2 → eqb (bit_or p q) 1 ≡ (eqb p 1 || eqb q 1)
-or-test zero zero h l = refl
-or-test zero (suc zero) h l = refl
-or-test (suc zero) zero h l = refl
-or-test (suc zero) (suc zero) h l = refl
-or-test (suc (suc p)) q h l = absurd (omega arith)
-or-test zero (suc (suc q)) h l = absurd (omega arith)
-or-test (suc zero) (suc (suc q)) h l = absurd (omega arith)
+or_test : (p q : ℕ) → p < 2 → q < 2 → eqb (bit_or p q) 1 ≡ (eqb p 1 || eqb q 1)
+or_test zero zero h l = refl
+or_test zero (suc zero) h l = refl
+or_test (suc zero) zero h l = refl
+or_test (suc zero) (suc zero) h l = refl
+or_test (suc (suc p)) q h l = absurd (omega arith)
+or_test zero (suc (suc q)) h l = absurd (omega arith)
+or_test (suc zero) (suc (suc q)) h l = absurd (omega arith)
 
 xor-test : (p q : ℕ) → p < 2 → q < 2 → eqb (bit_xor p q) 1 ≡ xor (eqb p 1) (eqb q 1)
 unfolding xor
@@ -47,11 +47,11 @@ xor-test (suc zero) (suc (suc q)) h l = absurd (omega arith)
 
 pub has-and : (a b k : ℕ) → has (bit_and a b) k ≡ (has a k && has b k)
 unfolding has
-has-and a b k = rw (and_shr a b (127 - k)) (rw (and_mod (a / 2 ^ (127 - k)) (b / 2 ^ (127 - k)) 1) (and-test (bit a (127 - k)) (bit b (127 - k)) (omega arith) (omega arith)))
+has-and a b k = rw (and_shr a b (127 - k)) (rw (and_mod (a / 2 ^ (127 - k)) (b / 2 ^ (127 - k)) 1) (and_test (bit a (127 - k)) (bit b (127 - k)) (omega arith) (omega arith)))
 
 pub has-or : (a b k : ℕ) → has (bit_or a b) k ≡ (has a k || has b k)
 unfolding has
-has-or a b k = rw (or_shr a b (127 - k)) (rw (or_mod (a / 2 ^ (127 - k)) (b / 2 ^ (127 - k)) 1) (or-test (bit a (127 - k)) (bit b (127 - k)) (omega arith) (omega arith)))
+has-or a b k = rw (or_shr a b (127 - k)) (rw (or_mod (a / 2 ^ (127 - k)) (b / 2 ^ (127 - k)) 1) (or_test (bit a (127 - k)) (bit b (127 - k)) (omega arith) (omega arith)))
 
 has-xor : (a b k : ℕ) → has (bit_xor a b) k ≡ xor (has a k) (has b k)
 unfolding has
@@ -86,27 +86,27 @@ has-not a k h l = ap (λ n. has n k) (sym (not_is a h)) ∙ has-xor a (2 ^ 128 -
 
 -- one bit
 
-above-bit : (i j : ℕ) → i < j → bit (2 ^ i) j ≡ 0
-above-bit i j h = rw (div-eq_of_lt (pow-lt h))
+above_bit : (i j : ℕ) → i < j → bit (2 ^ i) j ≡ 0
+above_bit i j h = rw (div-eq_of_lt (pow-lt h))
 
-below-bit : (m j : ℕ) → bit (2 ^ (suc m + j)) j ≡ 0
-below-bit m j = rw (pow-add 2 (suc m) j) (rw (shl-shr (2 ^ suc m) j) (omega (arith, two-pow-succ m)))
+below_bit : (m j : ℕ) → bit (2 ^ (suc m + j)) j ≡ 0
+below_bit m j = rw (pow-add 2 (suc m) j) (rw (shl-shr (2 ^ suc m) j) (omega (arith, two-pow-succ m)))
 
-own-bit : (j : ℕ) → bit (2 ^ j) j ≡ 1
-own-bit j =
+own_bit : (j : ℕ) → bit (2 ^ j) j ≡ 1
+own_bit j =
     let e : 2 ^ j / 2 ^ j ≡ 1 = ap (λ n. n / 2 ^ j) (omega arith) ∙ shl-shr 1 j in
     rw e
 
 pub has_one : (b k : ℕ) → b < 128 → k < 128 → has (2 ^ (127 - b)) k ≡ eqb k b
 unfolding has
 has_one b k h l = elim (cases_order k b) [
-  | inl e ↦ eq-eqb _ _ (ap (λ m. bit (2 ^ (127 - b)) (127 - m)) e ∙ own-bit (127 - b)) ∙ sym (eq-eqb k b e)
+  | inl e ↦ eq-eqb _ _ (ap (λ m. bit (2 ^ (127 - b)) (127 - m)) e ∙ own_bit (127 - b)) ∙ sym (eq-eqb k b e)
   | inr (inl lt) ↦
-      ne_eqb _ _ (λ z. omega (arith, above-bit (127 - b) (127 - k) (omega arith)))
+      ne_eqb _ _ (λ z. omega (arith, above_bit (127 - b) (127 - k) (omega arith)))
       ∙ sym (ne_eqb k b (omega arith))
   | inr (inr gt) ↦
       let n : suc (k - b - 1) + (127 - k) ≡ 127 - b = omega arith in
-      let z : bit (2 ^ (127 - b)) (127 - k) ≡ 0 = subst (λ m. bit (2 ^ m) (127 - k) ≡ 0) n (below-bit (k - b - 1) (127 - k)) in
+      let z : bit (2 ^ (127 - b)) (127 - k) ≡ 0 = subst (λ m. bit (2 ^ m) (127 - k) ≡ 0) n (below_bit (k - b - 1) (127 - k)) in
       ne_eqb _ _ (λ o. omega arith) ∙ sym (ne_eqb k b (omega arith))
 ]
 
@@ -125,41 +125,41 @@ by_bits (suc n) a b h l same =
     half : (j : ℕ) → j < n → bit (a / 2) j ≡ bit (b / 2) j
     half j k = ap (λ m. m % 2) (shr-shr a 1 j) ∙ same (1 + j) (omega arith) ∙ sym (ap (λ m. m % 2) (shr-shr b 1 j))
 
-one-test : (p q : ℕ) → p < 2 → q < 2 → eqb p 1 ≡ eqb q 1 → p ≡ q
-one-test p q h l e = grind (arith, nat_tests)
+one_test : (p q : ℕ) → p < 2 → q < 2 → eqb p 1 ≡ eqb q 1 → p ≡ q
+one_test p q h l e = grind (arith, nat_tests)
 
-pub same-members : SameMembers
+pub same_members : SameMembers
 unfolding has
-same-members a b h l same = by_bits 128 a b h l (λ j k. one-test (bit a j) (bit b j) (omega arith) (omega arith) (subst (λ m. eqb (bit a m) 1 ≡ eqb (bit b m) 1) (back j k) (same (127 - j) (omega arith))))
+same_members a b h l same = by_bits 128 a b h l (λ j k. one_test (bit a j) (bit b j) (omega arith) (omega arith) (subst (λ m. eqb (bit a m) 1 ≡ eqb (bit b m) 1) (back j k) (same (127 - j) (omega arith))))
   where
     back : (j : ℕ) → j < 128 → 127 - (127 - j) ≡ j
     back j k = omega arith
 
 -- the lowest member is where the leading zeros end
 
-first-at : (s z j : ℕ) → z + suc j ≡ 128 → 2 ^ j ≤ s → s < 2 ^ suc j → has s z ≡ true
+first_at : (s z j : ℕ) → z + suc j ≡ 128 → 2 ^ j ≤ s → s < 2 ^ suc j → has s z ≡ true
 unfolding has
-first-at s z j e low up =
+first_at s z j e low up =
     let d : s / 2 ^ j ≡ 1 = div-eq_of_lt-le (2 ^ j) (omega arith) (omega (arith, two-pow-succ j)) in
     let w : bit s j ≡ 1 = ap (λ x. x % 2) d in
     let p : j ≡ 127 - z = omega arith in
     eq-eqb _ _ (subst (λ i. bit s i ≡ 1) p w)
 
-pub first-in : (s : ℕ) → s < 2 ^ 128 → count_leading_zeros 128 s < 128 → has s (count_leading_zeros 128 s) ≡ true
-first-in s h l =
+pub first_in : (s : ℕ) → s < 2 ^ 128 → count_leading_zeros 128 s < 128 → has s (count_leading_zeros 128 s) ≡ true
+first_in s h l =
     let some : 0 < s = elim (cases_lt 0 s) [ inl p ↦ p | inr z ↦ let e : s ≡ 0 = omega arith in absurd (omega (arith, ap (count_leading_zeros 128) e, leading_of_zero 128)) ] in
     let t = leading_top 128 s some h in
-    first-at s (count_leading_zeros 128 s) t.0 t.1 t.2 t.3
+    first_at s (count_leading_zeros 128 s) t.0 t.1 t.2 t.3
 
-none-at : (s k z m : ℕ) → z + m ≡ 128 → s < 2 ^ m → k < z → has s k ≡ false
+none_at : (s k z m : ℕ) → z + m ≡ 128 → s < 2 ^ m → k < z → has s k ≡ false
 unfolding has
-none-at s k z m e h l =
+none_at s k z m e h l =
     let p : 2 ^ m ≤ 2 ^ (127 - k) = pow-le-pow_right (omega arith) (omega arith) in
     let d : s / 2 ^ (127 - k) ≡ 0 = div-eq_of_lt (omega arith) in
     rw d
 
 pub none_before : (s k : ℕ) → s < 2 ^ 128 → k < count_leading_zeros 128 s → has s k ≡ false
-none_before s k h l = let t = leading_length 128 s h in none-at s k (count_leading_zeros 128 s) t.0 t.1 t.2 l
+none_before s k h l = let t = leading_length 128 s h in none_at s k (count_leading_zeros 128 s) t.0 t.1 t.2 l
 
 -- a bridge is its number
 

@@ -5,11 +5,11 @@ use Rattle.sets.proofs.Members.{same_id}
 use Rattle.sets.specs.declared.bridge_id.BridgeId.{BridgeId}
 use Rattle.trees.specs.Ids.{OrderedByParts, OneNumberOneId}
 
-pub ordered-by-parts : OrderedByParts
-ordered-by-parts a b = (λ h. grind arith, λ h. grind arith)
+pub ordered_by_parts : OrderedByParts
+ordered_by_parts a b = (λ h. grind arith, λ h. grind arith)
 
-pub one-number-one-id : OneNumberOneId
-one-number-one-id a b e = along b.seq b.announcer b.nonce seq (same_id a.announcer b.announcer announcer) nonce b.three_bytes
+pub one_number_one_id : OneNumberOneId
+one_number_one_id a b e = along b.seq b.announcer b.nonce seq (same_id a.announcer b.announcer announcer) nonce b.three_bytes
   where
     seq : a.seq ≡ b.seq
     seq = omega arith

@@ -21,20 +21,20 @@ looks-in-words n t =
 abbrev pub Hung : List ℕ → List ℕ → ℕ → Type 0
 Hung ps ds b = (get_or ps b 0 ≡ b) ⊎ (get_or ds (get_or ps b 0) 0 < get_or ds b 0)
 
-above-is : (n b : ℕ) (ps ds : List ℕ) → b < 128 → (shaped n ps ds).above b ≡ get_or ps b 0
-above-is n b ps ds h = rw (lt-ltb b 128 h)
+above_is : (n b : ℕ) (ps ds : List ℕ) → b < 128 → (shaped n ps ds).above b ≡ get_or ps b 0
+above_is n b ps ds h = rw (lt-ltb b 128 h)
 
 hangs : (n b : ℕ) (ps ds : List ℕ) → b < 128 → Hung ps ds b → Hangs (shaped n ps ds) b
-hangs n b ps ds h u = subst (λ a. (a ≡ b) ⊎ (get_or ds a 0 < get_or ds b 0)) (sym (above-is n b ps ds h)) u
+hangs n b ps ds h u = subst (λ a. (a ≡ b) ⊎ (get_or ds a 0 < get_or ds b 0)) (sym (above_is n b ps ds h)) u
 
 hung : (n b : ℕ) (ps ds : List ℕ) → b < 128 → Hangs (shaped n ps ds) b → Hung ps ds b
-hung n b ps ds h u = subst (λ a. (a ≡ b) ⊎ (get_or ds a 0 < get_or ds b 0)) (above-is n b ps ds h) u
+hung n b ps ds h u = subst (λ a. (a ≡ b) ⊎ (get_or ds a 0 < get_or ds b 0)) (above_is n b ps ds h) u
 
-pub all-hung : (ps ds : List ℕ) → ((b : ℕ) → b < 128 → Hung ps ds b) → (n : ℕ) → true ≡ looks 128 (shaped n ps ds)
-all-hung ps ds u n = sym ((looks-in-words 128 (shaped n ps ds)).1 (λ b h. hangs n b ps ds h (u b h)))
+pub all_hung : (ps ds : List ℕ) → ((b : ℕ) → b < 128 → Hung ps ds b) → (n : ℕ) → true ≡ looks 128 (shaped n ps ds)
+all_hung ps ds u n = sym ((looks-in-words 128 (shaped n ps ds)).1 (λ b h. hangs n b ps ds h (u b h)))
 
-pub one-loose : (ps ds : List ℕ) (b : ℕ) → b < 128 → (Hung ps ds b → ⊥) → (n : ℕ) → false ≡ looks 128 (shaped n ps ds)
-one-loose ps ds b h u n = elim (cases_Bool (looks 128 (shaped n ps ds))) [
+pub one_loose : (ps ds : List ℕ) (b : ℕ) → b < 128 → (Hung ps ds b → ⊥) → (n : ℕ) → false ≡ looks 128 (shaped n ps ds)
+one_loose ps ds b h u n = elim (cases_Bool (looks 128 (shaped n ps ds))) [
   | inl e ↦ absurd (u (hung n b ps ds h ((looks-in-words 128 (shaped n ps ds)).0 e b h)))
   | inr e ↦ sym e
 ]

@@ -36,8 +36,8 @@ module _ (n : ℕ) (t : Tree) (l : looks n t ≡ true) where
   under-far {c} {x} (more lt u) = let h = under-far u in elim (nearer n t l x lt) [ inl e ↦ omega (arith, ap t.far e) | inr f ↦ omega arith ]
 
   -- nobody stands above who is nearer
-  pub not-under : {c x : ℕ} → t.far x < t.far c → Under n t c x → ⊥
-  not-under f u = let h = under-far u in omega arith
+  pub not_under : {c x : ℕ} → t.far x < t.far c → Under n t c x → ⊥
+  not_under f u = let h = under-far u in omega arith
 
   -- of two that stand above the same, one stands above the other
   pub in-line : {b d x : ℕ} → Under n t b x → Under n t d x → Under n t b d ⊎ Under n t d b
@@ -51,11 +51,11 @@ module _ (n : ℕ) (t : Tree) (l : looks n t ≡ true) where
   under_up ne (more lt u) = u
 
   -- two below the same one, and both above another, are one
-  pub one-child : {b d x : ℕ} → b < n → d < n → (t.above b ≡ b → ⊥) → t.above b ≡ t.above d → (t.above d ≡ d → ⊥) → Under n t b x → Under n t d x → b ≡ d
-  one-child {b} {d} {x} lb ld nb e nd u v = elim (ℕ_discrete b d) [ yes q ↦ q | no ne ↦ absurd (elim (in-line u v) [ inl w ↦ apart b d lb nb e ne w | inr w ↦ apart d b ld nd (sym e) (λ q. ne (sym q)) w ]) ]
+  pub one_child : {b d x : ℕ} → b < n → d < n → (t.above b ≡ b → ⊥) → t.above b ≡ t.above d → (t.above d ≡ d → ⊥) → Under n t b x → Under n t d x → b ≡ d
+  one_child {b} {d} {x} lb ld nb e nd u v = elim (ℕ_discrete b d) [ yes q ↦ q | no ne ↦ absurd (elim (in-line u v) [ inl w ↦ apart b d lb nb e ne w | inr w ↦ apart d b ld nd (sym e) (λ q. ne (sym q)) w ]) ]
     where
       apart : (b d : ℕ) → b < n → (t.above b ≡ b → ⊥) → t.above b ≡ t.above d → (b ≡ d → ⊥) → Under n t b d → ⊥
-      apart b d lb nb e ne w = elim (nearer n t l b lb) [ inl q ↦ nb q | inr f ↦ not-under (subst (λ y. t.far y < t.far b) e f) (under_up ne w) ]
+      apart b d lb nb e ne w = elim (nearer n t l b lb) [ inl q ↦ nb q | inr f ↦ not_under (subst (λ y. t.far y < t.far b) e f) (under_up ne w) ]
 
 -- the same as a test; going up k times is enough where k is at least as far as it is to the top
 unfoldable pub under : ℕ → ℕ → Tree → ℕ → ℕ → Bool
@@ -67,9 +67,9 @@ unfolding under
 under-is zero n t c x e = self (grind (arith, nat_tests))
 under-is (suc k) n t c x e = elim (ℕ_discrete x c) [ yes q ↦ self q | no ne ↦ more (grind (arith, nat_tests)) (under-is k n t c (t.above x) (grind (arith, nat_tests))) ]
 
-pub is-under : (n : ℕ) (t : Tree) → looks n t ≡ true → (k c x : ℕ) → t.far x ≤ k → Under n t c x → under k n t c x ≡ true
+pub is_under : (n : ℕ) (t : Tree) → looks n t ≡ true → (k c x : ℕ) → t.far x ≤ k → Under n t c x → under k n t c x ≡ true
 unfolding under
-is-under n t l zero c x h (self e) = grind (arith, nat_tests)
-is-under n t l zero c x h (more lt u) = elim (nearer n t l x lt) [ inl e ↦ subst (λ y. under zero n t c y ≡ true) e (is-under n t l zero c (t.above x) (omega (arith, ap t.far e)) u) | inr f ↦ absurd (omega arith) ]
-is-under n t l (suc k) c x h (self e) = grind (arith, nat_tests)
-is-under n t l (suc k) c x h (more lt u) = elim (nearer n t l x lt) [ inl e ↦ subst (λ y. under (suc k) n t c y ≡ true) e (is-under n t l (suc k) c (t.above x) (omega (arith, ap t.far e)) u) | inr f ↦ grind (arith, nat_tests, is-under n t l k c (t.above x) (omega arith) u) ]
+is_under n t l zero c x h (self e) = grind (arith, nat_tests)
+is_under n t l zero c x h (more lt u) = elim (nearer n t l x lt) [ inl e ↦ subst (λ y. under zero n t c y ≡ true) e (is_under n t l zero c (t.above x) (omega (arith, ap t.far e)) u) | inr f ↦ absurd (omega arith) ]
+is_under n t l (suc k) c x h (self e) = grind (arith, nat_tests)
+is_under n t l (suc k) c x h (more lt u) = elim (nearer n t l x lt) [ inl e ↦ subst (λ y. under (suc k) n t c y ≡ true) e (is_under n t l (suc k) c (t.above x) (omega (arith, ap t.far e)) u) | inr f ↦ grind (arith, nat_tests, is_under n t l k c (t.above x) (omega arith) u) ]

@@ -27,6 +27,6 @@ put_two before head rest mid after ok t em e =
     subst (λ b. after ≡ cond b (before ++ (head ++ rest)) before) (sym t)
     (subst (λ b. after ≡ cond b (mid ++ rest) mid) t e ∙ ap (λ x. x ++ rest) em ∙ append_assoc before head rest)
 
-pub carried-two : (before : List ℕ) (ok : Bool) {head says rest tells after : List ℕ} → head ≡ says → rest ≡ tells
+pub carried_two : (before : List ℕ) (ok : Bool) {head says rest tells after : List ℕ} → head ≡ says → rest ≡ tells
     → after ≡ cond ok (before ++ (head ++ rest)) before → after ≡ cond ok (before ++ (says ++ tells)) before
-carried-two before ok p q e = e ∙ (λ i. cond ok (before ++ (p i ++ q i)) before)
+carried_two before ok p q e = e ∙ (λ i. cond ok (before ++ (p i ++ q i)) before)

@@ -32,9 +32,9 @@ get_or-pairs f g i (suc n) (suc k) h =
     (ap (λ j. get_or (pairs_of f g i (suc n)) j 0) two ∙ r.0 ∙ ap f e, ap (λ j. get_or (pairs_of f g i (suc n)) j 0) odd ∙ r.1 ∙ ap g e)
 
 -- a list with the one at its even places and the other at its odd ones
-pub pairs-are : (xs : List ℕ) (f g : ℕ → ℕ) (n : ℕ) → length xs ≡ 2 * n → ((k : ℕ) → k < n → get_or xs (2 * k) 0 ≡ f k)
+pub pairs_are : (xs : List ℕ) (f g : ℕ → ℕ) (n : ℕ) → length xs ≡ 2 * n → ((k : ℕ) → k < n → get_or xs (2 * k) 0 ≡ f k)
     → ((k : ℕ) → k < n → get_or xs (2 * k + 1) 0 ≡ g k) → xs ≡ pairs_of f g 0 n
-pairs-are xs f g n l p q = same-list xs (pairs_of f g 0 n) (l ∙ sym (length_pairs f g 0 n)) each where
+pairs_are xs f g n l p q = same-list xs (pairs_of f g 0 n) (l ∙ sym (length_pairs f g 0 n)) each where
   each : (k : ℕ) → k < length xs → get_or xs k 0 ≡ get_or (pairs_of f g 0 n) k 0
   each k h =
       let h2 = k / 2 in
@@ -48,12 +48,12 @@ pairs-are xs f g n l p q = same-list xs (pairs_of f g 0 n) (l ∙ sym (length_pa
       ]
 
 -- one pair more, written behind the others
-pub pair-more : (cells : List ℕ) (f g : ℕ → ℕ) (n k i x y : ℕ) → length cells ≡ 2 * n → k < n → i ≡ k → x ≡ f k → y ≡ g k
+pub pair_more : (cells : List ℕ) (f g : ℕ → ℕ) (n k i x y : ℕ) → length cells ≡ 2 * n → k < n → i ≡ k → x ≡ f k → y ≡ g k
     → ((j : ℕ) → j < k → get_or cells (2 * j) 0 ≡ f j) → ((j : ℕ) → j < k → get_or cells (2 * j + 1) 0 ≡ g j)
     → (length (set (set cells (2 * i) x) (2 * i + 1) y) ≡ 2 * n)
     × ((j : ℕ) → j < k + 1 → get_or (set (set cells (2 * i) x) (2 * i + 1) y) (2 * j) 0 ≡ f j)
     × ((j : ℕ) → j < k + 1 → get_or (set (set cells (2 * i) x) (2 * i + 1) y) (2 * j + 1) 0 ≡ g j)
-pair-more cells f g n k i x y l h ei ep ed p q = (
+pair_more cells f g n k i x y l h ei ep ed p q = (
   simp length-set l,
   λ j s. grind (arith, get_or-set_same, get_or-set_other, length-set, cases_eq j k, p j),
   λ j s. grind (arith, get_or-set_same, get_or-set_other, length-set, cases_eq j k, q j),

@@ -5,7 +5,7 @@ use borrow.Author.Tests.{lt-leb}
 use Rattle.std.proofs.lemmas.List.{get_or-drop, get_or-take, length-take-le, length-take}
 use Rattle.crc.specs.Crc.{crc_of}
 use Rattle.crc.specs.Burst.{Bytes}
-use Rattle.crc.proofs.Windows.{burst-told}
+use Rattle.crc.proofs.Windows.{burst_told}
 use Rattle.wire.specs.declared.fault.Fault.{Fault}
 use Rattle.wire.specs.declared.fault.Fault.TheVariants.{Malformed}
 use Rattle.wire.specs.Bytes.{four, summed, whole, with_sum}
@@ -56,11 +56,11 @@ split : (t : Bool) → (t ≡ true) ⊎ (t ≡ false)
 split true = inl refl
 split false = inr refl
 
-not-both : (e : Fault) → ◌≡◌ {A = Option Fault} (Some e) None → ⊥
-not-both e p = let z : ◌≡◌ {A = ℕ} 0 1 = cc in omega arith
+not_both : (e : Fault) → ◌≡◌ {A = Option Fault} (Some e) None → ⊥
+not_both e p = let z : ◌≡◌ {A = ℕ} 0 1 = cc in omega arith
 
-is-summed : (b : List ℕ) → message_fault b ≡ None → summed b ≡ true
-is-summed b e = elim (split (summed b)) [ inl t ↦ t | inr f ↦ absurd (not-both Malformed (sym (unsummed b f) ∙ e)) ]
+is_summed : (b : List ℕ) → message_fault b ≡ None → summed b ≡ true
+is_summed b e = elim (split (summed b)) [ inl t ↦ t | inr f ↦ absurd (not_both Malformed (sym (unsummed b f) ∙ e)) ]
 
 front_bytes : (n : ℕ) (b : List ℕ) → Bytes b → Bytes (take n b)
 front_bytes zero b h = tt
@@ -68,31 +68,31 @@ front_bytes (suc n) [] h = tt
 front_bytes (suc n) (x ∷ xs) h = (h.0, front_bytes n xs h.1)
 
 -- the number that the sum says
-sum-says : (b : List ℕ) (n : ℕ) → four b n ≡ get_or (drop n b) 0 0 * 16777216 + get_or (drop n b) 1 0 * 65536 + get_or (drop n b) 2 0 * 256 + get_or (drop n b) 3 0
-sum-says b n =
+sum_says : (b : List ℕ) (n : ℕ) → four b n ≡ get_or (drop n b) 0 0 * 16777216 + get_or (drop n b) 1 0 * 65536 + get_or (drop n b) 2 0 * 256 + get_or (drop n b) 3 0
+sum_says b n =
     let p : get_or b n 0 ≡ get_or (drop n b) 0 0 = sym (get_or-drop n b 0 0 ∙ ap (λ j. get_or b j 0) (let z : n + 0 ≡ n = omega arith in z)) in
     λ i. p i * 16777216 + sym (get_or-drop n b 1 0) i * 65536 + sym (get_or-drop n b 2 0) i * 256 + sym (get_or-drop n b 3 0) i
 
 damage : DamageTold
 damage sent came hs hc ok d ne =
-    elim (split (summed came)) [ inr f ↦ unsummed came f | inl t ↦ absurd (ne (same (is-summed sent ok) t d)) ]
+    elim (split (summed came)) [ inr f ↦ unsummed came f | inl t ↦ absurd (ne (same (is_summed sent ok) t d)) ]
   where
-    from-bodies : summed sent ≡ true → summed came ≡ true → body_of sent ≡ body_of came → sent ≡ came
-    from-bodies s t e = summed-is sent hs s ∙ ap with_sum e ∙ sym (summed-is came hc t)
+    from_bodies : summed sent ≡ true → summed came ≡ true → body_of sent ≡ body_of came → sent ≡ came
+    from_bodies s t e = summed-is sent hs s ∙ ap with_sum e ∙ sym (summed-is came hc t)
 
     same : summed sent ≡ true → summed came ≡ true → BodyDamaged sent came ⊎ SumDamaged sent came → sent ≡ came
     same s t (inl w) =
         let e : crc_of (body_of sent) ≡ crc_of (body_of came) =
-        sym (summed-four sent s).1 ∙ sum-says sent (length sent - 4)
-        ∙ ap (λ r. get_or r 0 0 * 16777216 + get_or r 1 0 * 65536 + get_or r 2 0 * 256 + get_or r 3 0) w.sum ∙ sym (sum-says came (length came - 4))
+        sym (summed-four sent s).1 ∙ sum_says sent (length sent - 4)
+        ∙ ap (λ r. get_or r 0 0 * 16777216 + get_or r 1 0 * 65536 + get_or r 2 0 * 256 + get_or r 3 0) w.sum ∙ sym (sum_says came (length came - 4))
         ∙ (summed-four came t).1 in
-        from-bodies s t
-        (burst-told (body_of sent) (body_of came) (front_bytes (length sent - 4) sent hs) (front_bytes (length came - 4) came hc) w.burst e)
-    same s t (inr w) = from-bodies s t w.body
+        from_bodies s t
+        (burst_told (body_of sent) (body_of came) (front_bytes (length sent - 4) sent hs) (front_bytes (length came - 4) came hc) w.burst e)
+    same s t (inr w) = from_bodies s t w.body
 
 -- another length
-wrong-length : (k n : ℕ) (b : List ℕ) → (length b ≡ n → ⊥) → whole k n b ≡ false
-wrong-length k n b h = ap (λ t. t && (eqb (get_or b 0 0) k && summed b)) (ne_eqb (length b) n h)
+wrong_length : (k n : ℕ) (b : List ℕ) → (length b ≡ n → ⊥) → whole k n b ≡ false
+wrong_length k n b h = ap (λ t. t && (eqb (get_or b 0 0) k && summed b)) (ne_eqb (length b) n h)
 
 by_kind : (t u v w x : Bool) (a b c d e a' b' c' d' e' : Option Fault)
     → (t ≡ true → a ≡ None → a' ≡ Some Malformed) → (b ≡ None → b' ≡ Some Malformed) → (c ≡ None → c' ≡ Some Malformed) → (d ≡ None → d' ≡ Some Malformed)
@@ -103,43 +103,43 @@ by_kind false true v w x a b c d e a' b' c' d' e' p q r s t n = q n
 by_kind false false true w x a b c d e a' b' c' d' e' p q r s t n = r n
 by_kind false false false true x a b c d e a' b' c' d' e' p q r s t n = s n
 by_kind false false false false true a b c d e a' b' c' d' e' p q r s t n = t n
-by_kind false false false false false a b c d e a' b' c' d' e' p q r s t n = absurd (not-both Malformed n)
+by_kind false false false false false a b c d e a' b' c' d' e' p q r s t n = absurd (not_both Malformed n)
 
 -- a message of one length, cut
-cut-whole : (k n m : ℕ) (b : List ℕ) (x y : Option Fault) → m < length b → length (take m b) ≡ m → cond (whole k n b) x (Some Malformed) ≡ None
+cut_whole : (k n m : ℕ) (b : List ℕ) (x y : Option Fault) → m < length b → length (take m b) ≡ m → cond (whole k n b) x (Some Malformed) ≡ None
     → cond (whole k n (take m b)) y (Some Malformed) ≡ Some Malformed
-cut-whole k n m b x y h l e =
+cut_whole k n m b x y h l e =
     let w = whole_is k n b (whole_of (whole k n b) _ _ e) in
-    ap (λ t. cond t y (Some Malformed)) (wrong-length k n (take m b) (λ q. omega (arith, w.0)))
+    ap (λ t. cond t y (Some Malformed)) (wrong_length k n (take m b) (λ q. omega (arith, w.0)))
 
 either_way : (t : Bool) (x : Option Fault) → x ≡ Some Malformed → cond t x (Some Malformed) ≡ Some Malformed
 either_way true x e = e
 either_way false x e = refl
 
 -- a frame, cut below the least length
-cut-frame : (b : List ℕ) (m : ℕ) → length (take m b) ≡ m → m < 31 → forwarded_fault (take m b) ≡ Some Malformed
-cut-frame b m l h =
+cut_frame : (b : List ℕ) (m : ℕ) → length (take m b) ≡ m → m < 31 → forwarded_fault (take m b) ≡ Some Malformed
+cut_frame b m l h =
     let c = take m b in
     let s : leb 14 (length (frame_in c)) ≡ false = lt-leb 14 (length (frame_in c)) (omega (arith, length-take (length c - 17) (drop 13 c))) in
     let f : station_fault (frame_in c) ≡ Some Malformed =
     failed (leb 14 (length (frame_in c)) && leb (length (frame_in c)) 1512) _ (ap (λ t. t && leb (length (frame_in c)) 1512) s) in
     either_way (eqb (get_or c 0 0) 1 && summed c) _ (ap (λ x. or_else x (header_fault c)) f)
 
-cut-ack : (b : List ℕ) (m : ℕ) → m < length b → length (take m b) ≡ m → ack_fault b ≡ None → ack_fault (take m b) ≡ Some Malformed
-cut-ack b m h l e = elim (split (whole 5 21 b)) [ inl t ↦ of-link-state t | inr f ↦ of_tree f ] where
+cut_ack : (b : List ℕ) (m : ℕ) → m < length b → length (take m b) ≡ m → ack_fault b ≡ None → ack_fault (take m b) ≡ Some Malformed
+cut_ack b m h l e = elim (split (whole 5 21 b)) [ inl t ↦ of_link_state t | inr f ↦ of_tree f ] where
   c : List ℕ
   c = take m b
 
-  of-link-state : whole 5 21 b ≡ true → ack_fault c ≡ Some Malformed
-  of-link-state t =
+  of_link_state : whole 5 21 b ≡ true → ack_fault c ≡ Some Malformed
+  of_link_state t =
       let n = (whole_is 5 21 b t).0 in
       let k : ack_kind b ≡ 3 = eqb-true (ack_kind b) 3 (whole_of (eqb (ack_kind b) 3) _ _ (ap (λ u. cond u (link_state_ack_fault b) (cond (whole 5 18 b) (tree_ack_fault b) (Some Malformed))) (sym t) ∙ e)) in
-      let w : whole 5 21 c ≡ false = wrong-length 5 21 c (λ q. omega (arith, n)) in
+      let w : whole 5 21 c ≡ false = wrong_length 5 21 c (λ q. omega (arith, n)) in
       ap (λ u. cond u (link_state_ack_fault c) (cond (whole 5 18 c) (tree_ack_fault c) (Some Malformed))) w
       ∙ elim (dec_lt 5 m) [
         | yes g ↦ let kc : ack_kind c ≡ 3 = get_or-take m b 5 0 g ∙ k in
             either_way (whole 5 18 c) (tree_ack_fault c) (failed (eqb (ack_kind c) 4) _ (ap (λ j. eqb j 4) kc))
-        | no g ↦ failed (whole 5 18 c) (tree_ack_fault c) (wrong-length 5 18 c (λ q. omega arith))
+        | no g ↦ failed (whole 5 18 c) (tree_ack_fault c) (wrong_length 5 18 c (λ q. omega arith))
       ]
 
   of_tree : whole 5 21 b ≡ false → ack_fault c ≡ Some Malformed
@@ -147,8 +147,8 @@ cut-ack b m h l e = elim (split (whole 5 21 b)) [ inl t ↦ of-link-state t | in
       let x : cond (whole 5 18 b) (tree_ack_fault b) (Some Malformed) ≡ None =
       ap (λ u. cond u (link_state_ack_fault b) (cond (whole 5 18 b) (tree_ack_fault b) (Some Malformed))) (sym f) ∙ e in
       let n = (whole_is 5 18 b (whole_of (whole 5 18 b) _ _ x)).0 in
-      ap (λ u. cond u (link_state_ack_fault c) (cond (whole 5 18 c) (tree_ack_fault c) (Some Malformed))) (wrong-length 5 21 c (λ q. omega (arith, n)))
-      ∙ failed (whole 5 18 c) (tree_ack_fault c) (wrong-length 5 18 c (λ q. omega (arith, n)))
+      ap (λ u. cond u (link_state_ack_fault c) (cond (whole 5 18 c) (tree_ack_fault c) (Some Malformed))) (wrong_length 5 21 c (λ q. omega (arith, n)))
+      ∙ failed (whole 5 18 c) (tree_ack_fault c) (wrong_length 5 18 c (λ q. omega (arith, n)))
 
 cut : CutTold
 cut b zero ok h f = refl
@@ -160,8 +160,8 @@ cut b (suc m) ok h f =
     (λ i. cond (eqb (k i) 1) (forwarded_fault c) (cond (eqb (k i) 2) (hello_fault c) (cond (eqb (k i) 3) (link_state_fault c) (cond (eqb (k i) 4) (tree_fault c) (cond (eqb (k i) 5) (ack_fault c) (Some Malformed))))))
     ∙ by_kind (eqb (kind_of b) 1) (eqb (kind_of b) 2) (eqb (kind_of b) 3) (eqb (kind_of b) 4) (eqb (kind_of b) 5)
     (forwarded_fault b) (hello_fault b) (link_state_fault b) (tree_fault b) (ack_fault b) (forwarded_fault c) (hello_fault c) (link_state_fault c) (tree_fault c) (ack_fault c)
-    (λ t e. cut-frame b n l (f (eqb-true (kind_of b) 1 t)))
-    (λ e. cut-whole 2 14 n b _ _ h l e) (λ e. cut-whole 3 32 n b _ _ h l e) (λ e. cut-whole 4 269 n b _ _ h l e) (λ e. cut-ack b n h l e) ok
+    (λ t e. cut_frame b n l (f (eqb-true (kind_of b) 1 t)))
+    (λ e. cut_whole 2 14 n b _ _ h l e) (λ e. cut_whole 3 32 n b _ _ h l e) (λ e. cut_whole 4 269 n b _ _ h l e) (λ e. cut_ack b n h l e) ok
 
 cut_settings : CutSettingsTold
 cut_settings b n ok h = failed (are_settings c) _ bad where

@@ -12,11 +12,11 @@ use Rattle.frames.specs.StationFrames.{station_fault}
 use Rattle.frames.specs.ForwardedFrames.{header_there, HeaderSays, header_fault, frame_in, or_else, forwarded_fault, header_bytes, forwarded_bytes}
 use Rattle.wire_laws.specs.RoundTrips.{RoundTrip, Framed, FramedFits, FramedSays, framed_bytes}
 use Rattle.wire_laws.proofs.Numbers.{two_back, three_back, four-back, in-two-at, front, take-front, take_split}
-use Rattle.wire_laws.proofs.TreeNumbers.{one-id, id-bytes}
-use Rattle.wire_laws.proofs.Whole.{and_both, and_first, and_second, sum_fits, summed-is, body_of, whole_of, then-of}
+use Rattle.wire_laws.proofs.TreeNumbers.{one_id, id_bytes}
+use Rattle.wire_laws.proofs.Whole.{and_both, and_first, and_second, sum_fits, summed-is, body_of, whole_of, then_of}
 
-says-header : (h : Header) (f : List ℕ) → h.tree.seq < 2 ^ 32 → h.vlan ≤ 4094 → HeaderSays (forwarded_bytes h f) h
-says-header h f s v = record {
+says_header : (h : Header) (f : List ℕ) → h.tree.seq < 2 ^ 32 → h.vlan ≤ 4094 → HeaderSays (forwarded_bytes h f) h
+says_header h f s v = record {
   by = refl;
   next = refl;
   tree = record { seq = sym (four-back h.tree.seq s); announcer = refl; nonce = sym (three_back h.tree.nonce h.tree.three_bytes) };
@@ -47,7 +47,7 @@ comes_back (h, f) (s, l, u, g) =
     let k : leb 13 (length b) ≡ true = le-leb 13 (length b) (omega (arith, length-frame h f)) in (
       (λ i. cond (w i) (or_else (station_fault (frame_back h f i)) (header_fault b)) (Some Malformed))
           ∙ ap (λ x. or_else x (header_fault b)) g ∙ (λ i. cond (k i) (cond (there h f l u i) None (Some NotThere)) (Some Malformed)),
-      (says-header h f s u, sym (frame_back h f)),
+      (says_header h f s u, sym (frame_back h f)),
     )
 
 -- the frame inside was not refused
@@ -56,21 +56,21 @@ inside None y e = refl
 inside (Some f) y e = e
 
 -- a frame that is not refused has at least 14 bytes
-frame-long : (b : List ℕ) → station_fault b ≡ None → 14 ≤ length b
-frame-long b e = let t = whole_of (leb 14 (length b) && leb (length b) 1512) _ _ e in leb-true 14 (length b) (and_first (leb 14 (length b)) (leb (length b) 1512) t)
+frame_long : (b : List ℕ) → station_fault b ≡ None → 14 ≤ length b
+frame_long b e = let t = whole_of (leb 14 (length b) && leb (length b) 1512) _ _ e in leb-true 14 (length b) (and_first (leb 14 (length b)) (leb (length b) 1512) t)
 
-frame-whole : (b : List ℕ) → 14 ≤ length (frame_in b) → 31 ≤ length b
-frame-whole b h = omega (arith, length-take (length b - 17) (drop 13 b))
+frame_whole : (b : List ℕ) → 14 ≤ length (frame_in b) → 31 ≤ length b
+frame_whole b h = omega (arith, length-take (length b - 17) (drop 13 b))
 
 same_bytes : (b : List ℕ) (m : Framed) → Bytes b → forwarded_fault b ≡ None → FramedSays b m → framed_bytes m ≡ b
 same_bytes b (h, f) ok e (s, g) =
     let w = whole_of (eqb (get_or b 0 0) 1 && summed b) _ _ e in
     let k : get_or b 0 0 ≡ 1 = eqb-true (get_or b 0 0) 1 (and_first (eqb (get_or b 0 0) 1) (summed b) w) in
     let sum : summed b ≡ true = and_second (eqb (get_or b 0 0) 1) (summed b) w in
-    let i = frame-long (frame_in b) (inside (station_fault (frame_in b)) (header_fault b) (then-of (eqb (get_or b 0 0) 1 && summed b) _ _ e)) in
-    let n : 31 ≤ length b = frame-whole b i in
+    let i = frame_long (frame_in b) (inside (station_fault (frame_in b)) (header_fault b) (then_of (eqb (get_or b 0 0) 1 && summed b) _ _ e)) in
+    let n : 31 ≤ length b = frame_whole b i in
     let head : header_bytes h ≡ front 0 13 b =
-    (λ j. sym k j ∷ s.by j ∷ s.next j ∷ (id-bytes b 3 h.tree ok s.tree j ++ in_two (s.vlan j)))
+    (λ j. sym k j ∷ s.by j ∷ s.next j ∷ (id_bytes b 3 h.tree ok s.tree j ++ in_two (s.vlan j)))
     ∙ (λ j. get_or b 0 0 ∷ get_or b 1 0 ∷ get_or b 2 0 ∷ (front 3 8 b ++ in-two-at b 11 ok j)) in
     let t : length b - 4 ≡ 13 + (length b - 17) = omega arith in
     let body : header_bytes h ++ f ≡ body_of b =
@@ -78,11 +78,11 @@ same_bytes b (h, f) ok e (s, g) =
     ∙ sym (ap (λ m. take m b) t ∙ take_split 13 (length b - 17) b (omega arith)) in
     ap with_sum body ∙ sym (summed-is b ok sum)
 
-one-message : (b : List ℕ) (m n : Framed) → FramedSays b m → FramedSays b n → m ≡ n
-one-message b (h, f) (k, g) (p, q) (r, t) =
+one_message : (b : List ℕ) (m n : Framed) → FramedSays b m → FramedSays b n → m ≡ n
+one_message b (h, f) (k, g) (p, q) (r, t) =
     let a = same_id h.by k.by (p.by ∙ sym r.by) in
     let c = same_id h.next k.next (p.next ∙ sym r.next) in
-    let d = one-id b 3 h.tree k.tree p.tree r.tree in
+    let d = one_id b 3 h.tree k.tree p.tree r.tree in
     let v = p.vlan ∙ sym r.vlan in
     let e = q ∙ sym t in
     λ i. (record { by = a i; next = c i; tree = d i; vlan = v i }, e i)
@@ -91,5 +91,5 @@ pub frames : RoundTrip Framed FramedFits forwarded_fault FramedSays framed_bytes
 frames = record {
   comes_back = comes_back;
   same_bytes = same_bytes;
-  different = λ m n h k e. one-message (framed_bytes m) m n (comes_back m h).1 (subst (λ b. FramedSays b n) (sym e) (comes_back n k).1);
+  different = λ m n h k e. one_message (framed_bytes m) m n (comes_back m h).1 (subst (λ b. FramedSays b n) (sym e) (comes_back n k).1);
 }

@@ -26,8 +26,8 @@ same_bytes b m h e s =
     (λ i. with_sum (2 ∷ s.bridge i ∷ (in_four (s.incarnation i) ++ in_four (s.heard i))))
     ∙ (λ i. with_sum (sym k i ∷ get_or b 1 0 ∷ (in-four-at b 2 h i ++ in-four-at b 6 h i))) ∙ whole-bytes 2 10 b h w
 
-pub one-message : (b : List ℕ) (m n : Hello) → HelloSays b m → HelloSays b n → m ≡ n
-one-message b m n p q =
+pub one_message : (b : List ℕ) (m n : Hello) → HelloSays b m → HelloSays b n → m ≡ n
+one_message b m n p q =
     let e = same_id m.bridge n.bridge (p.bridge ∙ sym q.bridge) in
     let f = p.incarnation ∙ sym q.incarnation in
     let g = p.heard ∙ sym q.heard in
@@ -37,5 +37,5 @@ pub hellos : RoundTrip Hello HelloFits hello_fault HelloSays hello_bytes
 hellos = record {
   comes_back = comes_back;
   same_bytes = same_bytes;
-  different = λ m n h k e. one-message (hello_bytes m) m n (says m h) (subst (λ b. HelloSays b n) (sym e) (says n k));
+  different = λ m n h k e. one_message (hello_bytes m) m n (says m h) (subst (λ b. HelloSays b n) (sym e) (says n k));
 }

@@ -5,7 +5,7 @@ use Rattle.sets.proofs.Members.{same_id}
 use Rattle.wire.specs.declared.fault.Fault.TheVariants.{Malformed, NotThere}
 use native.Mathlib.Bridge.{le_prop}
 use Rattle.sets.specs.Sets.{bytes_of, number_of, Bytes16}
-use Rattle.sets.proofs.InBytes.{number-back, bytes_back}
+use Rattle.sets.proofs.InBytes.{number_back, bytes_back}
 use Rattle.wire.specs.declared.count.Count.{Count}
 use Rattle.messages.specs.declared.link_state.LinkState.{LinkState}
 use Rattle.wire.specs.Bytes.{in_four, in_six, whole, with_sum}
@@ -27,7 +27,7 @@ says m h = record {
   bridge = refl;
   incarnation = sym (four-back m.incarnation h.0);
   count = sym (six-back m.count.value m.count.six_bytes);
-  neighbours = sym (number-back m.neighbours.bits h.1);
+  neighbours = sym (number_back m.neighbours.bits h.1);
 }
 
 pub comes_back : (m : LinkState) → LinkStateFits m → (link_state_fault (link_state_bytes m) ≡ None) × LinkStateSays (link_state_bytes m) m
@@ -56,8 +56,8 @@ same_bytes b m h e s =
     (λ i. with_sum ((3 ∷ s.bridge i ∷ (in_four (s.incarnation i) ++ in_six (s.count i))) ++ n i))
     ∙ (λ i. with_sum ((sym k i ∷ get_or b 1 0 ∷ (in-four-at b 2 h i ++ in-six-at b 6 h i)) ++ front 12 16 b)) ∙ whole-bytes 3 28 b h w
 
-pub one-message : (b : List ℕ) (m n : LinkState) → LinkStateSays b m → LinkStateSays b n → m ≡ n
-one-message b m n p q =
+pub one_message : (b : List ℕ) (m n : LinkState) → LinkStateSays b m → LinkStateSays b n → m ≡ n
+one_message b m n p q =
     let e = same_id m.bridge n.bridge (p.bridge ∙ sym q.bridge) in
     let f = p.incarnation ∙ sym q.incarnation in
     let g = same_count m.count n.count (p.count ∙ sym q.count) in
@@ -68,5 +68,5 @@ pub link_states : RoundTrip LinkState LinkStateFits link_state_fault LinkStateSa
 link_states = record {
   comes_back = comes_back;
   same_bytes = same_bytes;
-  different = λ m n h k e. one-message (link_state_bytes m) m n (says m h) (subst (λ b. LinkStateSays b n) (sym e) (says n k));
+  different = λ m n h k e. one_message (link_state_bytes m) m n (says m h) (subst (λ b. LinkStateSays b n) (sym e) (says n k));
 }

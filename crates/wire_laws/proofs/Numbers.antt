@@ -17,23 +17,23 @@ pub three_back : (n : ℕ) → n < 2 ^ 24 → n / 65536 % 256 * 65536 + n / 256 
 three_back n h = omega (arith, shr-shr n 8 8)
 
 -- the digits of a number from its quotients, each the next one's digits and one more
-digits-of-four : (n p q r a b c d : ℕ) → n ≡ p * 256 + d → p ≡ q * 256 + c → q ≡ r * 256 + b → a ≡ r → a * 16777216 + b * 65536 + c * 256 + d ≡ n
-digits-of-four n p q r a b c d e f g h = omega arith
+digits_of_four : (n p q r a b c d : ℕ) → n ≡ p * 256 + d → p ≡ q * 256 + c → q ≡ r * 256 + b → a ≡ r → a * 16777216 + b * 65536 + c * 256 + d ≡ n
+digits_of_four n p q r a b c d e f g h = omega arith
 
-digits-of-six : (n p q r s t a b c d e f : ℕ) → n ≡ p * 256 + f → p ≡ q * 256 + e → q ≡ r * 256 + d → r ≡ s * 256 + c → s ≡ t * 256 + b → a ≡ t
+digits_of_six : (n p q r s t a b c d e f : ℕ) → n ≡ p * 256 + f → p ≡ q * 256 + e → q ≡ r * 256 + d → r ≡ s * 256 + c → s ≡ t * 256 + b → a ≡ t
     → (a * 256 + b) * 4294967296 + (c * 16777216 + d * 65536 + e * 256 + f) ≡ n
-digits-of-six n p q r s t a b c d e f h1 h2 h3 h4 h5 h6 = omega arith
+digits_of_six n p q r s t a b c d e f h1 h2 h3 h4 h5 h6 = omega arith
 
 pub four-back : (n : ℕ) → n < 2 ^ 32 → n / 16777216 % 256 * 16777216 + n / 65536 % 256 * 65536 + n / 256 % 256 * 256 + n % 256 ≡ n
 four-back n h =
-    digits-of-four n (n / 256) (n / 65536) (n / 16777216) (n / 16777216 % 256) (n / 65536 % 256) (n / 256 % 256) (n % 256) (omega arith)
+    digits_of_four n (n / 256) (n / 65536) (n / 16777216) (n / 16777216 % 256) (n / 65536 % 256) (n / 256 % 256) (n % 256) (omega arith)
     (omega (arith, shr-shr n 8 8)) (omega (arith, shr-shr n 16 8)) (omega arith)
 
 pub six-back : (n : ℕ) → n < 2 ^ 48
     → (n / 1099511627776 % 256 * 256 + n / 4294967296 % 256) * 4294967296
     + (n / 16777216 % 256 * 16777216 + n / 65536 % 256 * 65536 + n / 256 % 256 * 256 + n % 256) ≡ n
 six-back n h =
-    digits-of-six n (n / 256) (n / 65536) (n / 16777216) (n / 4294967296) (n / 1099511627776) (n / 1099511627776 % 256) (n / 4294967296 % 256)
+    digits_of_six n (n / 256) (n / 65536) (n / 16777216) (n / 4294967296) (n / 1099511627776) (n / 1099511627776 % 256) (n / 4294967296 % 256)
     (n / 16777216 % 256) (n / 65536 % 256) (n / 256 % 256) (n % 256) (omega arith) (omega (arith, shr-shr n 8 8)) (omega (arith, shr-shr n 16 8))
     (omega (arith, shr-shr n 24 8)) (omega (arith, shr-shr n 32 8)) (omega arith)
 

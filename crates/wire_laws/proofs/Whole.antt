@@ -3,7 +3,7 @@ use Rattle.std.proofs.Common.{◌≡◌, ℕ, suc, ◌+◌, ◌-◌, ◌*◌, �
 use Rattle.std.proofs.lemmas.List.{take-append-drop, take-append-le, take_all}
 use Rattle.crc.specs.Crc.{crc_of}
 use Rattle.crc.specs.Burst.{Bytes}
-use Rattle.crc.proofs.Windows.{crc-below}
+use Rattle.crc.proofs.Windows.{crc_below}
 use Rattle.wire.specs.declared.fault.Fault.{Fault}
 use Rattle.wire.specs.Bytes.{four, in_four, summed, with_sum, whole}
 use Rattle.wire_laws.proofs.Numbers.{four-back, in-four-at, front, take-front}
@@ -40,7 +40,7 @@ sum_fits b =
     and_both (leb 4 (length (with_sum b))) (eqb (four (with_sum b) (length (with_sum b) - 4)) (crc_of (take (length (with_sum b) - 4) (with_sum b))))
     (le-leb 4 (length (with_sum b)) (omega arith))
     (eq-eqb (four (with_sum b) (length (with_sum b) - 4)) (crc_of (take (length (with_sum b) - 4) (with_sum b)))
-    (ap (four (with_sum b)) n ∙ four-behind b (crc_of b) (crc-below b) ∙ sym (ap (λ k. crc_of (take k (with_sum b))) n ∙ ap crc_of t)))
+    (ap (four (with_sum b)) n ∙ four-behind b (crc_of b) (crc_below b) ∙ sym (ap (λ k. crc_of (take k (with_sum b))) n ∙ ap crc_of t)))
 
 pub is_whole : (kind n : ℕ) (b : List ℕ) → length (with_sum b) ≡ n → get_or (with_sum b) 0 0 ≡ kind → whole kind n (with_sum b) ≡ true
 is_whole kind n b l k =
@@ -93,6 +93,6 @@ pub whole_of : (t : Bool) (x : Option Fault) (e : Fault) → cond t x (Some e) �
 whole_of true x e p = refl
 whole_of false x e p = absurd (let z : ◌≡◌ {A = ℕ} 0 1 = cc in omega arith)
 
-pub then-of : (t : Bool) (x : Option Fault) (e : Fault) → cond t x (Some e) ≡ None → x ≡ None
-then-of true x e p = p
-then-of false x e p = absurd (let z : ◌≡◌ {A = ℕ} 0 1 = cc in omega arith)
+pub then_of : (t : Bool) (x : Option Fault) (e : Fault) → cond t x (Some e) ≡ None → x ≡ None
+then_of true x e p = p
+then_of false x e p = absurd (let z : ◌≡◌ {A = ℕ} 0 1 = cc in omega arith)

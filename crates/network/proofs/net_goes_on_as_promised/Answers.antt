@@ -1,5 +1,5 @@
 use Rattle.network.proofs.net_goes_on_as_promised.Goals as goal
-use Rattle.network.proofs.Runs.{goes-on-as-net}
+use Rattle.network.proofs.Runs.{goes_on_as_net}
 
 pub returns : goal.returns
-returns c = goes-on-as-net
+returns c = goes_on_as_net

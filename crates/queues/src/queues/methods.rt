@@ -4,7 +4,7 @@ ghost use Rattle.std.specs.Option.{ghost_name_of as name_of, option_map};
 ghost use Rattle.rows.specs.Slot.{frame};
 ghost use Rattle.rows.specs.contracts.slot.Slot.{the_row as slot_row};
 ghost use Rattle.pending.specs.Waits.{waits, message_of};
-ghost use Rattle.pending.specs.contracts.messages.Pending.{the_row as pending-row};
+ghost use Rattle.pending.specs.contracts.messages.Pending.{the_row as pending_row};
 ghost use Rattle.queues.specs.Port.{port_of, idle, message_in, frame_in, after_out, with_frame, with_control, refilled, emptied};
 ghost use Rattle.queues.specs.Ports.{ports_of, changed, port_at, room_at, out_at};
 ghost use Rattle.queues.specs.contracts.queues.Queues.{the_row};
@@ -56,7 +56,7 @@ impl Queues {
 
     // Lends the messages that wait at a port, for more to be added; `None` if the port is not there.
     pub fn pending(&mut self, port: usize) -> Option<&mut Pending>
-        ensures* lent { sem 𝓛 (follows_so the_row pending-row self.entry.ghost_name (name_of result) (λ w n. (is_some result ≡ true → ports_of n ≡ changed port (with_control (waits w)) (ports_of self.old))) (λ n. (is_some result ≡ false → ports_of n ≡ ports_of self.old))) }
+        ensures* lent { sem 𝓛 (follows_so the_row pending_row self.entry.ghost_name (name_of result) (λ w n. (is_some result ≡ true → ports_of n ≡ changed port (with_control (waits w)) (ports_of self.old))) (λ n. (is_some result ≡ false → ports_of n ≡ ports_of self.old))) }
         ensures lent_facts { (is_some result ≡ nat_lt port 16) × IfSome result (λ x. waits x.now ≡ (port_at port (ports_of self.old)).control) }
     {
         if PORTS <= port {

@@ -1,5 +1,5 @@
-use Rattle.sets.proofs.Members.{same-members}
+use Rattle.sets.proofs.Members.{same_members}
 use Rattle.sets.proofs.same_members_stands.Goals as goal
 
 pub returns : goal.returns
-returns c = same-members
+returns c = same_members

@@ -1,5 +1,5 @@
-use Rattle.trees.proofs.Ids.{one-number-one-id}
+use Rattle.trees.proofs.Ids.{one_number_one_id}
 use Rattle.trees.proofs.one_number_one_id_stands.Goals as goal
 
 pub returns : goal.returns
-returns c = one-number-one-id
+returns c = one_number_one_id

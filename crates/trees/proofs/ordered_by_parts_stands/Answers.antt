@@ -1,5 +1,5 @@
-use Rattle.trees.proofs.Ids.{ordered-by-parts}
+use Rattle.trees.proofs.Ids.{ordered_by_parts}
 use Rattle.trees.proofs.ordered_by_parts_stands.Goals as goal
 
 pub returns : goal.returns
-returns c = ordered-by-parts
+returns c = ordered_by_parts

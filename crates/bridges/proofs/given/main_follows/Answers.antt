@@ -1,5 +1,5 @@
 use Rattle.bridges.proofs.given.main_follows.Goals as goal
-use Rattle.bridges.proofs.MainFrom.{main-from}
+use Rattle.bridges.proofs.MainFrom.{main_from}
 
 pub returns : goal.returns
-returns c = main-from
+returns c = main_from

@@ -1,5 +1,5 @@
 use Rattle.bridges.proofs.promises.frames_arrive_once.Goals as goal
-use Rattle.bridges.proofs.Arrives.{arrives-once}
+use Rattle.bridges.proofs.Arrives.{arrives_once}
 
 pub returns : goal.returns
-returns c = arrives-once
+returns c = arrives_once

@@ -1,4 +1,4 @@
-use Rattle.crc.proofs.Linear.{through-next, through-end, crc-through}
+use Rattle.crc.proofs.Linear.{through-next, through-end, crc_through}
 use Rattle.crc.proofs.bits.taken_in.Goals as goal
 
 pub loop-byte-preserved : goal.loop-byte-preserved
@@ -10,5 +10,5 @@ loop-byte-preserved c =
 pub returns : goal.returns
 returns c =
     let e = through-end c.loop-byte.register c.loop-byte.byte-index c.args.bytes.now c.loop-byte-test.false in
-    let s = crc-through c.args.bytes.now in
+    let s = crc_through c.args.bytes.now in
     cc

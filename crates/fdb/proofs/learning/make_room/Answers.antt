@@ -1,11 +1,11 @@
 use Rattle.std.proofs.Common.{◌≡◌, ◌<◌, length, None, vec_items, arith, rules}
 use Rattle.std.proofs.lemmas.Bool.{leb-true, leb-false}
 use Rattle.fdb.specs.Entries.{oldest}
-use Rattle.fdb.proofs.Ordered.{room-free, room-full, oldest-some}
+use Rattle.fdb.proofs.Ordered.{room_free, room_full, oldest-some}
 use Rattle.fdb.proofs.learning.make_room.Goals as goal
 
 pub returns-in-Some : goal.returns-in-Some
-returns-in-Some c = search (rules, room-full, leb-true)
+returns-in-Some c = search (rules, room_full, leb-true)
 
 pub returns-in_default : goal.returns-in_default
 returns-in_default c =
@@ -14,4 +14,4 @@ returns-in_default c =
     absurd (grind (arith, leb-true))
 
 pub returns-else-is_full : goal.returns-else-is_full
-returns-else-is_full c = search (rules, room-free, leb-false)
+returns-else-is_full c = search (rules, room_free, leb-false)

@@ -1,11 +1,11 @@
 use Rattle.std.proofs.Common.{◌≡◌, true, set, vec_items, sym, subst, arith, rules}
 use Rattle.fdb.specs.Entries.{ascending}
 use Rattle.fdb.specs.Contents.{learned}
-use Rattle.fdb.proofs.Ordered.{noted, learned-new, learned-ascending, room-ascending, room-new}
+use Rattle.fdb.proofs.Ordered.{noted, learned-new, learned-ascending, room_ascending, room_new}
 use Rattle.fdb.proofs.learning.note.Goals as goal
 
 pub insert-requires : goal.insert-requires
-insert-requires c = search (rules, room-ascending, room-new)
+insert-requires c = search (rules, room_ascending, room_new)
 
 pub returns-in-Ok : goal.returns-in-Ok
 returns-in-Ok c =

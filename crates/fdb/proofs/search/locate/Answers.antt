@@ -1,6 +1,6 @@
 use Rattle.std.proofs.Common.{◌+◌, ◌/◌, inl, inr, arith}
 use Rattle.std.proofs.lemmas.Bool.{cases_eq}
-use Rattle.fdb.proofs.Ordered.{rises, stands_at, belongs-at}
+use Rattle.fdb.proofs.Ordered.{rises, stands_at, belongs_at}
 use Rattle.fdb.proofs.search.locate.Goals as goal
 use Rattle.fdb.proofs.search.locate.Goals.{then-entries-base, else-entries-base}
 
@@ -20,17 +20,17 @@ loop-size-preserved c =
     ]
 
 pub returns-then-size-eq0 : goal.returns-then-size-eq0
-returns-then-size-eq0 c = belongs-at c.args.station c.args.entries.now 0 (omega arith) (λ k l. absurd (omega arith)) (λ k m l. absurd (omega arith))
+returns-then-size-eq0 c = belongs_at c.args.station c.args.entries.now 0 (omega arith) (λ k l. absurd (omega arith)) (λ k m l. absurd (omega arith))
 
 pub returns-then-held-station : goal.returns-then-held-station
 returns-then-held-station c = stands_at c.args.station c.args.entries.now c.requires c.loop-size.base (omega arith) (omega arith)
 
 pub returns-then-held-station-2 : goal.returns-then-held-station-2
 returns-then-held-station-2 c =
-    belongs-at c.args.station c.args.entries.now (c.loop-size.base + 1) (omega arith)
+    belongs_at c.args.station c.args.entries.now (c.loop-size.base + 1) (omega arith)
     (λ k l. grind (arith, rises c.args.entries.now c.requires k c.loop-size.base)) (λ k m l. c.loop-size.invariant.3 k (omega arith) l)
 
 pub returns-else-held-station-2 : goal.returns-else-held-station-2
 returns-else-held-station-2 c =
-    belongs-at c.args.station c.args.entries.now c.loop-size.base (omega arith)
+    belongs_at c.args.station c.args.entries.now c.loop-size.base (omega arith)
     (λ k l. grind (arith, c.loop-size.invariant.2)) (λ k m l. grind (arith, c.loop-size.invariant.3 k))

@@ -1,5 +1,5 @@
 use Rattle.std.proofs.Common.{arith}
-use Rattle.layout.proofs.Finding.{address_more, address-here, address-past}
+use Rattle.layout.proofs.Finding.{address_more, address_here, address_past}
 use Rattle.layout.proofs.stations.find_address.Goals as goal
 
 pub loop-i-preserved : goal.loop-i-preserved
@@ -9,10 +9,10 @@ loop-i-preserved c =
 
 pub returns-else-not-lives_at : goal.returns-else-not-lives_at
 returns-else-not-lives_at c =
-    let e = address-here c.args.address.now c.args.stations.now c.loop-i.i c.index-stations-i.result c.loop-i-test.true c.index-stations-i.is c.if-not-lives_at.ensures in
+    let e = address_here c.args.address.now c.args.stations.now c.loop-i.i c.index-stations-i.result c.loop-i-test.true c.index-stations-i.is c.if-not-lives_at.ensures in
     record { value = omega arith; within = omega arith }
 
 pub returns-after-loop-i : goal.returns-after-loop-i
 returns-after-loop-i c =
-    let e = address-past c.args.address.now c.args.stations.now c.loop-i.i c.loop-i-test.false in
+    let e = address_past c.args.address.now c.args.stations.now c.loop-i.i c.loop-i-test.false in
     record { value = omega arith; within = omega arith }

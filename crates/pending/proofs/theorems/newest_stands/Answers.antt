@@ -1,5 +1,5 @@
-use Rattle.pending.proofs.Words.{only-the-newest}
+use Rattle.pending.proofs.Words.{only_the_newest}
 use Rattle.pending.proofs.theorems.newest_stands.Goals as goal
 
 pub returns : goal.returns
-returns c = only-the-newest
+returns c = only_the_newest

@@ -2,16 +2,16 @@ use Rattle.std.proofs.Common.{ap, ◌∙◌, arith}
 use Rattle.std.specs.Option.{option_map}
 use Rattle.std.proofs.lemmas.Bool.Decides.{nat_tests}
 use Rattle.pending.specs.Waits.{waits, message_of, AckLinkState, AckTree, LinkState, Tree}
-use Rattle.pending.proofs.Lowest.{table-first, table_none, set_first, set-none, second, third, fourth, fifth}
+use Rattle.pending.proofs.Lowest.{table_first, table_none, set_first, set_none, second, third, fourth, fifth}
 use Rattle.pending.proofs.messages.Pending.peek.Goals as goal
 
 pub returns-in-Some : goal.returns-in-Some
-returns-in-Some c = second (waits c.args.self.now) _ (grind (arith, nat_tests)) (table-first AckLinkState _ _ _ c.in-Some.ack.bridge.ok c.in-Some.ensures)
+returns-in-Some c = second (waits c.args.self.now) _ (grind (arith, nat_tests)) (table_first AckLinkState _ _ _ c.in-Some.ack.bridge.ok c.in-Some.ensures)
 
 pub returns-in-Some-first : goal.returns-in-Some-first
 returns-in-Some-first c =
     third (waits c.args.self.now) _ (grind (arith, nat_tests)) (table_none AckLinkState _ c.in_default.ensures)
-    (table-first AckTree _ _ _ c.in-Some-first.ack.announcer.ok c.in-Some-first.ensures)
+    (table_first AckTree _ _ _ c.in-Some-first.ack.announcer.ok c.in-Some-first.ensures)
 
 pub returns-in-Some-first-2 : goal.returns-in-Some-first-2
 returns-in-Some-first-2 c =
@@ -22,9 +22,9 @@ pub returns-in_err-announcer : goal.returns-in_err-announcer
 returns-in_err-announcer c =
     ap (option_map message_of) c.from_residual.ensures
     ∙ fifth (waits c.args.self.now) _ (grind (arith, nat_tests)) (table_none AckLinkState _ c.in_default.ensures) (table_none AckTree _ c.in_default-first.ensures)
-    (set-none LinkState _ c.in_default-first-2.ensures) (set-none Tree _ c.in_err-announcer.ensures)
+    (set_none LinkState _ c.in_default-first-2.ensures) (set_none Tree _ c.in_err-announcer.ensures)
 
 pub returns : goal.returns
 returns c =
     fifth (waits c.args.self.now) _ (grind (arith, nat_tests)) (table_none AckLinkState _ c.in_default.ensures) (table_none AckTree _ c.in_default-first.ensures)
-    (set-none LinkState _ c.in_default-first-2.ensures) (set_first Tree _ _ c.in_ok-announcer.announcer.ok c.in_ok-announcer.ensures.0 c.in_ok-announcer.ensures.1)
+    (set_none LinkState _ c.in_default-first-2.ensures) (set_first Tree _ _ c.in_ok-announcer.announcer.ok c.in_ok-announcer.ensures.0 c.in_ok-announcer.ensures.1)

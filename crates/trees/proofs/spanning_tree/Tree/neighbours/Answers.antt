@@ -2,7 +2,7 @@ use Rattle.std.proofs.Common.{◌||◌, eqb, ap, ◌∙◌}
 use Rattle.sets.specs.Sets.{has}
 use Rattle.trees.specs.Tree.{joined}
 use Rattle.trees.specs.Meanings.{meaning}
-use Rattle.trees.proofs.Neighbours.{found-one, found_none}
+use Rattle.trees.proofs.Neighbours.{found_one, found_none}
 use Rattle.trees.proofs.spanning_tree.Tree.neighbours.Goals as goal
 use Rattle.trees.proofs.spanning_tree.Tree.neighbours.Goals.{then-is_joined, else-is_joined}
 
@@ -12,7 +12,7 @@ loop-k-preserved c = λ j h. elim c.if-is_joined.branch [
       ap (λ s. has s.bits j) w.found-is
       ∙ w.with-found.ensures j h
       ∙ ap (λ x. eqb j c.in-Some.c.value || x) (c.loop-k.invariant j h)
-      ∙ found-one (joined (meaning c.args.self.now) c.args.b.value) c.loop-k.k c.in-Some.c.value j c.in-Some.ensures.1 w.if-is_joined.ensures
+      ∙ found_one (joined (meaning c.args.self.now) c.args.b.value) c.loop-k.k c.in-Some.c.value j c.in-Some.ensures.1 w.if-is_joined.ensures
   | else-is_joined w ↦
       ap (λ s. has s.bits j) w.found-is
       ∙ c.loop-k.invariant j h
