@@ -19,11 +19,12 @@ DECLARED = re.compile(r"^(\s*)((?:abbrev |unfoldable |pub )*)(data |record )?([^
 # What the toolchain names after the code.
 MADE = re.compile(r"^(returns|invariant|decreases|loop|overflow|index|branch)(-|$)|-requires$|^in-")
 CHARS = r"[^\s(){}\[\]:,.;λ\"`|]"
-# Names of one crate that would fall together with another there by the rules alone (a lemma that has its function's name gets `_lem`), and local names.
+# Names of one crate that would fall together with another there by the rules alone (a lemma that has its function's name gets `_lem`), local names, and
+# lemmas whose first part is known only by an import that nothing uses.
 OWN = {
     "crc": {"low-bits": "low_bits_lem", "split-a": "split_a", "split-b": "split_b"},
     "messages": {"all-below": "all_below_lem"},
-    "wire_laws": {"in_two": "in_two_lem", "in_three": "in_three_lem", "in_four": "in_four_lem", "can-be": "can_be_lem"},
+    "wire_laws": {"in_two": "in_two_lem", "in_three": "in_three_lem", "in_four": "in_four_lem", "can-be": "can_be_lem", "length-by-kind": "length_by_kind"},
     "network": {
         "is-tree": "is_tree_lem",
         "tree-of": "tree_of_lem",
@@ -33,7 +34,17 @@ OWN = {
         "station-way": "station_way_lem",
     },
     "ports": {"none_below": "none_below_lem"},
-    "bridges": {"not_back": "not_back_lem", "none_of": "none_of_lem", "send_by": "send_by_lem", "all-below": "all_below_lem", "no-tree": "no_tree_lem", "no-pick": "no_pick"},
+    "bridges": {
+        "not_back": "not_back_lem",
+        "none_of": "none_of_lem",
+        "send_by": "send_by_lem",
+        "all-below": "all_below_lem",
+        "no-tree": "no_tree_lem",
+        "no-pick": "no_pick",
+        "at-below": "at_below",
+        "not-back-is": "not_back_is",
+        "on-way-is": "on_way_is",
+    },
     "queues": {"pending-row": "pending_row", "out-at": "out_at_lem", "port-at": "port_at_lem", "room-at": "room_at_lem"},
     "pending": {"linkAcks": "link_acks_of", "treeAcks": "tree_acks_of"},
 }
