@@ -1,9 +1,9 @@
 // The bridges in the boxes.
-ghost use Rattle.std.specs.Prelude.{◌≡◌, ℕ, ◌<◌, [], ◌∷◌, IfOk, None, vec_len, slice_index_or};
+ghost use Rattle.std.specs.Prelude.{◌≡◌, ℕ, ◌<◌, [], ◌∷◌, IfOk, OnOk, OnErr, None, vec_len, slice_index_or};
 ghost use Rattle.std.specs.Option.{option_map};
 ghost use Rattle.trees.specs.Ids.{id_number};
 ghost use Rattle.forwarding.specs.State.{aged_state};
-ghost use Rattle.scenario.specs.Boxes.{newest_at, Began, holds_newest, all_hold};
+ghost use Rattle.scenario.specs.Boxes.{newest_at, Began, Prepared, PreparedBelow, PartlyPrepared, holds_newest, all_hold};
 ghost use Rattle.scenario.specs.Slots.{state_in, become};
 
 use crate::links::relink_slot;
@@ -48,7 +48,10 @@ fn prepare(
     heap: Global,
     wiring: &Wiring,
     node: u8,
-) -> Result<(), AllocError> {
+) -> Result<(), AllocError>
+    ensures ok { OnOk result (Prepared wiring.now.nodes node slot.old slot.new) }
+    ensures err { OnErr result (slot.new ≡ slot.old) }
+{
     if slot.is_none() {
         *slot = started(heap, wiring, node)?;
     }
@@ -62,7 +65,10 @@ pub(crate) fn prepare_all(
     bridges: &mut Vec<Option<Bridge>>,
     heap: Global,
     wiring: &Wiring,
-) -> Result<(), AllocError> {
+) -> Result<(), AllocError>
+    ensures ok { OnOk result (PreparedBelow wiring.now.nodes 6 bridges.old.items bridges.new.items) }
+    ensures err { OnErr result (PartlyPrepared wiring.now.nodes bridges.old.items bridges.new.items) }
+{
     for node in 0..6u8 {
         let i = node as usize;
         if i < bridges.len() {
@@ -74,7 +80,8 @@ pub(crate) fn prepare_all(
 
 /// Each bridge forgets what is old.
 pub(crate) fn age_all(bridges: &mut Vec<Option<Bridge>>, tick: u64)
-    ensures { (n : ℕ) → n < vec_len bridges.old → state_in (slice_index_or bridges.new.items n None) ≡ become (aged_state tick) (state_in (slice_index_or bridges.old.items n None)) }
+    ensures length { vec_len bridges.new ≡ vec_len bridges.old }
+    ensures aged { (n : ℕ) → n < vec_len bridges.old → state_in (slice_index_or bridges.new.items n None) ≡ become (aged_state tick) (state_in (slice_index_or bridges.old.items n None)) }
 {
     for i in 0..bridges.len() {
         slots::age(&mut bridges[i], tick);

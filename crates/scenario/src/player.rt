@@ -1,6 +1,7 @@
 // The player of a script: the bridges in the boxes, the trees that were announced, and the clock.
-ghost use Rattle.std.specs.Prelude.{◌≡◌, ℕ, ◌+◌, ◌-◌, ◌^◌, ◌<◌, min, max, IfOk, if◌then◌else◌, None, vec_len, fold, ◌≢◌, nat_lt, slice_index_or, slice_set};
+ghost use Rattle.std.specs.Prelude.{◌≡◌, ℕ, ◌+◌, ◌-◌, ◌^◌, ◌<◌, min, max, IfOk, OnOk, OnErr, if◌then◌else◌, None, vec_len, fold, ◌≢◌, nat_lt, slice_index_or, slice_set};
 ghost use Rattle.forwarding.specs.State.{aged_state, crashed};
+ghost use Rattle.scenario.specs.Boxes.{PreparedBelow, PartlyPrepared};
 ghost use Rattle.scenario.specs.Forest.{Announced};
 ghost use Rattle.scenario.specs.Losses.{left_at, with_left};
 ghost use Rattle.scenario.specs.Slots.{state_in, become};
@@ -68,6 +69,8 @@ impl Player {
 
     /// Sees that each box that is on has a bridge, and tells each of its links: before anything is played.
     pub fn prepare(&mut self, heap: Global, wiring: &Wiring) -> Result<(), AllocError>
+        ensures ok { OnOk result (PreparedBelow wiring.now.nodes 6 self.old.bridges.items self.new.bridges.items) }
+        ensures err { OnErr result (PartlyPrepared wiring.now.nodes self.old.bridges.items self.new.bridges.items) }
         ensures same { (self.new.losses ≡ self.old.losses) × ((self.new.clock ≡ self.old.clock) × (self.new.forest ≡ self.old.forest)) }
     {
         boxes::prepare_all(&mut self.bridges, heap, wiring)
@@ -94,6 +97,7 @@ impl Player {
 
     /// The bridge of a box falls.
     pub fn fall(&mut self, node: u8)
+        ensures length { vec_len self.new.bridges ≡ vec_len self.old.bridges }
         ensures here { node < vec_len self.old.bridges → state_in (slice_index_or self.new.bridges.items node None) ≡ become crashed (state_in (slice_index_or self.old.bridges.items node None)) }
         ensures others { (n : ℕ) → (n ≢ node) → slice_index_or self.new.bridges.items n None ≡ slice_index_or self.old.bridges.items n None }
         ensures same { Kept self.old self.new }
@@ -106,6 +110,7 @@ impl Player {
 
     /// Ticks pass, and then each bridge forgets what is old.
     pub fn tick(&mut self, ticks: u32)
+        ensures length { vec_len self.new.bridges ≡ vec_len self.old.bridges }
         ensures clock { self.new.clock ≡ min (self.old.clock + ticks) (2 ^ 64 - 1) }
         ensures aged { (n : ℕ) → n < vec_len self.old.bridges → state_in (slice_index_or self.new.bridges.items n None) ≡ become (aged_state self.new.clock) (state_in (slice_index_or self.old.bridges.items n None)) }
         ensures same { (self.new.losses ≡ self.old.losses) × (self.new.forest ≡ self.old.forest) }
@@ -131,6 +136,7 @@ impl Player {
 
     /// A box adopts the latest tree that was announced with a sequence number.
     pub fn adopt(&mut self, wiring: &Wiring, node: u8, seq: u32) -> Result<(), Refusal>
+        ensures length { vec_len self.new.bridges ≡ vec_len self.old.bridges }
         ensures after { AdoptedAt wiring.now.nodes node seq self.old result self.new }
         ensures same { Kept self.old self.new }
     {
