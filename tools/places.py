@@ -21,8 +21,8 @@ LINES = {
     "4 equality or order by hand": r"fn (same\w*|is|is_newer_than|is_earlier|is_named|lives_at)\(|\.value\(\) [!=]= |a\.\w+ == b\.\w+",
     "4 a conversion by hand": r"fn (fault_of|number|value|index)\(|fn new\((value|word|address): [^,]*(, vlan: u16)?\) -> Option<| as (u32|u64|usize)\b",
     "4 printing by hand": r"\{node\}\.\{port\}|\{other\}\.\{end\}|:02x\}:|fault \{number\}|with \{number\}|fn words\(",
-    "6 a buffer or a list of fixed size, or with its length beside it": r"^\s+(pub(\(crate\))? )?\w+: (\[[\w<>\[\]; ]+; \w+\]|Vec<\w+>|Vec<Option<\w+>>),",
-    "7 a step chosen by a value": r"match (kind|verb|self|command) \{",
+    "6 a length beside a buffer, parallel arrays, a sorted list searched, an index into a growing list": r"^\s+(pub )?(len|used): usize,|^\s+pub ports: u8,|^\s+waits: BridgeSet,|^\s+(pub(\(crate\))? )?entries: Vec<Entry>,|^    depth: \[u8; MOST_BRIDGES\],|= queue\[i\]",
+    "7 a step chosen by a value": r"match (kind|verb|command) \{",
 }
 SHAPES = re.compile(r"enum (\w+)(?:<'a>)? \{(.*?)\n\}", re.S)
 
@@ -47,6 +47,23 @@ def files():
 
 def stays(lines, i):
     return any("Stays:" in lines[k] for k in range(max(0, i - 4), i + 1))
+
+
+KEEP = set("fn let mut if else match for in while return Some None Ok Err self true false as break continue pub ref move loop usize u8 u16 u32 u64".split())
+
+
+def twins():
+    """Functions of one crate whose bodies are alike but for names and numbers, of twelve words or more."""
+    shapes = collections.defaultdict(list)
+    for path in files():
+        text = "\n".join(line for line in code_of(path) if not line.lstrip().startswith("//"))
+        for m in re.finditer(r"^( *)(?:pub(?:\(crate\))? )?(?:extern \"C\" )?fn (\w+).*?\n\1\{\n(.*?)\n\1\}", text, re.S | re.M):
+            words = re.findall(r"\w+|[^\w\s]", m.group(3))
+            if len(words) < 12:
+                continue
+            shape = " ".join("7" if w[0].isdigit() else w if w in KEEP or not re.match(r"\w", w) else "x" for w in words)
+            shapes[(path.parts[1], shape)].append(f"{path}:{m.group(2)}")
+    return sorted(rows for rows in shapes.values() if len(rows) > 1)
 
 
 def main():
@@ -99,6 +116,8 @@ def main():
     for (crate, kinds), where in groups.items():
         if len(where) >= 3:
             found["5 three parameters that go together at three functions or more"].append((crate, f"{len(where)} x {', '.join(kinds)}", False))
+    for rows in twins():
+        found["2 functions of one shape in one crate"].append(("crates", "; ".join(rows), False))
     for name in sorted(found):
         rows = found[name]
         kept = sum(1 for r in rows if r[2])
