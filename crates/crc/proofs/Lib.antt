@@ -1,4 +1,3 @@
 pub mod Linear
-pub mod Table
 pub mod Eight
 pub mod Windows

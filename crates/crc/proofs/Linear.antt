@@ -1,8 +1,8 @@
 -- The register's shift is linear over exclusive or, and what lies above the bits that fall out only moves down.
-use Rattle.std.proofs.Common.{◌≡◌, ℕ, zero, suc, ◌+◌, ◌-◌, ◌*◌, ◌/◌, ◌%◌, ◌^◌, ◌<◌, ◌≤◌, List, [], ◌∷◌, ◌++◌, length, get_or, drop, sym, refl, ap, ◌∙◌, subst, append_assoc, mod-lt, mul_assoc, add_comm, suc-add, one-mul, pow-suc, zero-add, zero-mul, mul-one, add-one, arith, lit<, drop-cons, pow_pos, shr-shr, shr_lt}
+use Rattle.std.proofs.Common.{◌≡◌, ℕ, zero, suc, ◌+◌, ◌*◌, ◌/◌, ◌%◌, ◌^◌, ◌<◌, List, [], ◌∷◌, ◌++◌, get_or, sym, refl, ap, ◌∙◌, subst, append_assoc, mod-lt, mul_assoc, add_comm, suc-add, one-mul, pow-suc, zero-add, zero-mul, mul-one, add-one, arith, lit<, pow_pos, shr-shr, shr_lt}
 use lib.Bits.{bit_xor, xor_shr, xor_mod, xor_assoc, xor_comm, xor_zero_r, xor_self, xor_shifted, xor_lt}
 use lib.Pow.{split}
-use Rattle.std.proofs.lemmas.List.{drop_all}
+use Rattle.std.specs.List.{fold}
 use Rattle.crc.specs.Burst.{Bytes}
 use Rattle.crc.specs.Crc.{polynomial, shifted, taken, register, low_bits, bits_of, after, through, crc_of, crc_bits, all_ones}
 
@@ -67,11 +67,6 @@ unfolding shifted
 shifted-below n h =
     xor_lt 32 (n / 2) (n % 2 * polynomial) (omega arith) (omega arith)
 
-pub after-below : (k n : ℕ) → n < 2 ^ 32 → after k n < 2 ^ 32
-unfolding after
-after-below zero n h = h
-after-below (suc k) n h = after-below k (shifted n) (shifted-below n h)
-
 -- taking in the k low bits of n is adding n and shifting k times
 pub register-low : (k c n : ℕ) → n < 2 ^ k → register c (low_bits k n) ≡ after k (bit_xor c n)
 unfolding register low_bits taken after
@@ -106,18 +101,10 @@ pub crc_through : (bs : List ℕ) → crc_of bs ≡ bit_xor (through all_ones bs
 unfolding crc_of crc_bits through
 crc_through bs = refl
 
--- one byte further on in a string
-pub through-next : (c i : ℕ) (bs : List ℕ) → i < length bs → get_or bs i 0 < 256
-    → through (after 8 (bit_xor c (get_or bs i 0))) (drop (i + 1) bs) ≡ through c (drop i bs)
-through-next c i bs h b = rw add-one (sym (ap (through c) (drop-cons bs i 0 h) ∙ through-more c (get_or bs i 0) (drop (suc i) bs) b))
-
-pub through-end : (c i : ℕ) (bs : List ℕ) → length bs ≤ i → through c (drop i bs) ≡ c
-through-end c i bs h = ap (through c) (drop_all i bs h) ∙ through-none c
-
--- one shift more of k
-pub after_next : (k i c : ℕ) → i < k → after (k - (i + 1)) (shifted c) ≡ after (k - i) c
-unfolding after
-after_next k i c h = let e : k - i ≡ suc (k - (i + 1)) = omega arith in rw e
+-- bytes taken in one by one
+pub through-fold : (c : ℕ) (bs : List ℕ) → ((k : ℕ) → get_or bs k 0 < 256) → fold (λ register byte. after 8 (bit_xor register byte)) c bs ≡ through c bs
+through-fold c [] h = sym (through-none c)
+through-fold c (b ∷ bs) h = through-fold (after 8 (bit_xor c b)) bs (λ k. h (suc k)) ∙ sym (through-more c b bs (h 0))
 
 -- the low byte of eight or more, and the bytes above it, each shifted on its own
 pub after-byte : (k w : ℕ) → after (8 + k) w ≡ bit_xor (after (8 + k) (w % 256)) (after k (w / 256))

@@ -5,6 +5,7 @@ ghost use Rattle.crc.specs.Crc.{after, all_ones, crc_of, shifted};
 const POLYNOMIAL: u32 = 0xEDB8_8320;
 
 // The register shifted down by one bit.
+#[tactic(auto, unfolding(crate::specs::Crc::shifted))]
 fn shift(register: u32) -> u32
     ensures { result ≡ shifted register }
 {
@@ -15,11 +16,9 @@ fn shift(register: u32) -> u32
 fn take_byte(register: u32, byte: u8) -> u32
     ensures { result ≡ after 8 (bit_xor register byte) }
 {
-    let mut shifting = register ^ u32::from(byte);
-    for _turn in 0..8u32 {
-        shifting = shift(shifting);
-    }
-    shifting
+    (0..8u32).fold(register ^ u32::from(byte), |shifting, _turn| {
+        shift(shifting)
+    })
 }
 
 // The CRC-32 of the bytes, with no table.
@@ -33,9 +32,7 @@ pub fn bitwise(bytes: &[u8]) -> u32
 fn taken_in(bytes: &[u8]) -> u32
     ensures { bit_xor result all_ones ≡ crc_of bytes.now }
 {
-    let mut register = u32::MAX;
-    for byte in bytes {
-        register = take_byte(register, *byte);
-    }
-    register
+    bytes
+        .iter()
+        .fold(u32::MAX, |register, byte| take_byte(register, *byte))
 }

@@ -2,13 +2,14 @@
 ghost use Rattle.std.specs.Prelude.{◌≡◌, ◌^◌, ◌<◌, bit_xor};
 ghost use Rattle.crc.specs.Crc.{after, all_ones, crc_of};
 
-use crate::tables::*;
+use crate::tables::by;
 
 // The register after it took in one byte.
+#[tactic(auto, using(crate::proofs::Linear::after_table))]
 fn take_byte(register: u32, byte: u8) -> u32
     ensures { result ≡ after 8 (bit_xor register byte) }
 {
-    by1((register % 256) as u8 ^ byte) ^ (register / 256)
+    by::<1>((register % 256) as u8 ^ byte) ^ (register / 256)
 }
 
 // Eight bytes, the first lowest, shifted through 64 bits.
@@ -16,7 +17,14 @@ fn shift_eight(word: u64) -> u32
     ensures { result ≡ after 64 word }
 {
     let [a, b, c, d, e, f, g, h] = word.to_le_bytes();
-    by8(a) ^ by7(b) ^ by6(c) ^ by5(d) ^ by4(e) ^ by3(f) ^ by2(g) ^ by1(h)
+    by::<8>(a)
+        ^ by::<7>(b)
+        ^ by::<6>(c)
+        ^ by::<5>(d)
+        ^ by::<4>(e)
+        ^ by::<3>(f)
+        ^ by::<2>(g)
+        ^ by::<1>(h)
 }
 
 // The CRC-32 of the bytes.
@@ -37,8 +45,6 @@ fn taken_in(bytes: &[u8]) -> u32
         register = shift_eight(u64::from(register) ^ word);
         rest = tail;
     }
-    for byte in rest {
-        register = take_byte(register, *byte);
-    }
-    register
+    rest.iter()
+        .fold(register, |register, byte| take_byte(register, *byte))
 }

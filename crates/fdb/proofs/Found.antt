@@ -26,12 +26,6 @@ unfolding find without
 find-without-other k s [] n = refl
 find-without-other k s (x ∷ xs) n = grind (arith, nat_tests, find-without-other k s xs n)
 
--- what is found is of the station that was looked for
-pub find-station : (k : ℕ) (es : List Entry) (e : Entry) → find k es ≡ Some e → e.station ≡ k
-unfolding find
-find-station k [] e h = grind arith
-find-station k (x ∷ xs) e h = grind (arith, nat_tests, find-station k xs e)
-
 pub find-above : (s k : ℕ) (es : List Entry) (e : Entry) → above s es ≡ true → find k es ≡ Some e → s < k
 unfolding find above
 find-above s k [] e a h = grind arith

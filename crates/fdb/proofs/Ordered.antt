@@ -1,11 +1,10 @@
 -- Entries in the order of their stations: what stands at which index, and that the order stays.
-use Rattle.std.proofs.Common.{◌≡◌, ℕ, zero, suc, ◌+◌, ◌-◌, ◌<◌, ◌≤◌, Bool, true, cond, eqb, ltb, List, [], ◌∷◌, length, get_or, drop, set, is_some, Some, None, filter, Option, sym, refl, ◌∙◌, subst, inl, inr, arith}
+use Rattle.std.proofs.Common.{◌≡◌, ℕ, zero, suc, ◌<◌, ◌≤◌, Bool, true, cond, ltb, List, [], ◌∷◌, length, get_or, set, is_some, Some, None, filter, Option, sym, refl, ◌∙◌, subst, inl, inr, arith}
 use Rattle.std.proofs.lemmas.Bool.Decides.{nat_tests}
 use Rattle.std.proofs.lemmas.Bool.{and_parts, le-ltb, cond_both, cases_lt}
-use Rattle.std.proofs.lemmas.List.{at_drop_more}
-use Rattle.std.specs.List.{insert, remove}
+use Rattle.std.specs.List.{insert}
 use Rattle.fdb.specs.declared.entry.Entry.{Entry}
-use Rattle.fdb.specs.Entries.{no_entry, above, ascending, find, put, without, oldest, remembered, fresh, longer}
+use Rattle.fdb.specs.Entries.{no_entry, above, ascending, find, put, without, oldest, remembered, fresh}
 use Rattle.fdb.specs.Search.{StandsAt, BelongsAt}
 use Rattle.fdb.specs.Contents.{most, evicted, room_for, learned}
 
@@ -22,19 +21,6 @@ rises [] h i j l b = absurd (omega arith)
 rises (x ∷ xs) h i zero l b = absurd (omega arith)
 rises (x ∷ xs) h zero (suc j) l b = above_at x.station xs (and_parts (above x.station xs) (ascending xs) h).0 j (omega arith)
 rises (x ∷ xs) h (suc i) (suc j) l b = rises xs (and_parts (above x.station xs) (ascending xs) h).1 i j (omega arith) (omega arith)
-
--- the oldest of what is left, and of one entry more before it
-pub oldest-none : (keep : ℕ) (es : List Entry) → oldest keep (drop (length es) es) ≡ None
-unfolding oldest
-oldest-none keep [] = refl
-oldest-none keep (x ∷ xs) = oldest-none keep xs
-
-pub oldest-more : (keep : ℕ) (es : List Entry) (i : ℕ) → 0 < i → i ≤ length es →
-    oldest keep (drop (i - 1) es) ≡ cond (eqb (get_or es (i - 1) no_entry).station keep) (oldest keep (drop i es)) (longer (get_or es (i - 1) no_entry) (oldest keep (drop i es)))
-unfolding oldest
-oldest-more keep es i p l =
-    let e : i - 1 + 1 ≡ i = omega arith in
-    subst (λ j. oldest keep (drop (i - 1) es) ≡ oldest keep (get_or es (i - 1) no_entry ∷ drop j es)) e (at_drop_more (oldest keep) es (i - 1) no_entry (omega arith))
 
 -- what is found of a station that stands at an index, or at none
 pub find_at : (s : ℕ) (es : List Entry) → ascending es ≡ true → (i : ℕ) → i < length es → (get_or es i no_entry).station ≡ s → find s es ≡ Some (get_or es i no_entry)
@@ -69,20 +55,6 @@ put-inserted e (x ∷ xs) (suc i) l b a =
     let q = b 0 (omega arith) in
     grind (arith, nat_tests, put-inserted e xs i (omega arith) (λ k m. b (suc k) (omega arith)) (λ k m n. a (suc k) (omega arith) (omega arith)))
 
--- what stands at an index taken out is all but its station
-without-above : (s : ℕ) (xs : List Entry) → above s xs ≡ true → without s xs ≡ xs
-unfolding above without
-without-above s [] h = refl
-without-above s (x ∷ xs) h = let p = and_parts (ltb s x.station) (above s xs) h in grind (arith, nat_tests, without-above s xs p.1)
-
-pub removed_without : (es : List Entry) → ascending es ≡ true → (i : ℕ) → i < length es → remove es i ≡ without (get_or es i no_entry).station es
-unfolding ascending without
-removed_without [] h i l = absurd (omega arith)
-removed_without (x ∷ xs) h zero l = grind (arith, nat_tests, without-above x.station xs (and_parts (above x.station xs) (ascending xs) h).0)
-removed_without (x ∷ xs) h (suc i) l =
-    let p = and_parts (above x.station xs) (ascending xs) h in
-    let a = above_at x.station xs p.0 i (omega arith) in grind (arith, nat_tests, removed_without xs p.1 i (omega arith))
-
 -- the order stays when an entry is put in its place, and when some are left out
 above-put : (s : ℕ) (e : Entry) (xs : List Entry) → s < e.station → above s xs ≡ true → above s (put e xs) ≡ true
 unfolding above put
@@ -111,10 +83,6 @@ unfolding ascending above
 ascending-kept p [] h = refl
 ascending-kept p (x ∷ xs) h =
     let q = and_parts (above x.station xs) (ascending xs) h in grind (arith, nat_tests, ascending-kept p xs q.1, above_kept x.station p xs q.0)
-
-pub ascending-none : (es : List Entry) → es ≡ [] → ascending es ≡ true
-unfolding ascending
-ascending-none es e = subst (λ xs. ascending xs ≡ true) (sym e) refl
 
 -- where a station stands or belongs, by the stations at each index
 pub stands_at : (s : ℕ) (es : List Entry) → ascending es ≡ true → (i : ℕ) → i < length es → (get_or es i no_entry).station ≡ s → StandsAt s es i
@@ -163,9 +131,9 @@ pub room_free : (keep : ℕ) (es : List Entry) → length es < 4096 → es ≡ r
 unfolding room_for
 room_free keep es l = grind (arith, nat_tests)
 
-pub room_full : (keep : ℕ) (es : List Entry) (i : ℕ) → ascending es ≡ true → 4096 ≤ length es → i < length es → oldest keep es ≡ Some (get_or es i no_entry) → remove es i ≡ room_for keep es
+pub room_full : (keep : ℕ) (es : List Entry) (v : Entry) → 4096 ≤ length es → oldest keep es ≡ Some v → without v.station es ≡ room_for keep es
 unfolding room_for
-room_full keep es i h m l o = removed_without es h i l ∙ rw (le-ltb (length es) most m, o)
+room_full keep es v m o = rw (le-ltb (length es) most m, o) refl
 
 -- what is held after a station was heard, as one that is known and as a new one
 pub learned-known : (e : Entry) (keep : ℕ) (es : List Entry) (x : Entry) → find e.station es ≡ Some x → put e es ≡ learned e keep es
@@ -182,9 +150,8 @@ learned-ascending e keep es h =
     ascending-put e (cond (is_some (find e.station es)) es (room_for keep es))
     (cond_both (is_some (find e.station es)) es (room_for keep es) (λ xs. ascending xs ≡ true) (λ _. h) (λ _. room_ascending keep es h))
 
-pub noted : (e : Entry) (keep : ℕ) (es xs : List Entry) (i : ℕ) → xs ≡ es → StandsAt e.station xs i → set es i e ≡ learned e keep es
-noted e keep es xs i q s =
-    let t : StandsAt e.station es i = subst (λ ys. StandsAt e.station ys i) q s in t.2 e refl ∙ learned-known e keep es (get_or es i no_entry) t.1
+pub noted : (e : Entry) (keep : ℕ) (es : List Entry) (i : ℕ) → StandsAt e.station es i → set es i e ≡ learned e keep es
+noted e keep es i s = s.2 e refl ∙ learned-known e keep es (get_or es i no_entry) s.1
 
 pub ascending-remembered : (now : ℕ) (es : List Entry) → ascending es ≡ true → ascending (remembered now es) ≡ true
 unfolding remembered

@@ -1,70 +1,64 @@
 // Making a table, looking a station up, and learning where one is.
-ghost use Rattle.std.specs.Prelude.{◌≡◌, ◌+◌, ◌<◌, ◌≤◌, true, length, IfOk, None, vec_len, vec_capacity, nat_le};
-ghost use Rattle.fdb.specs.Entries.{ascending, find, put, place_of};
+ghost use Rattle.std.specs.Prelude.{◌≡◌, ◌<◌, length, IfOk, None, nat_le};
+ghost use Rattle.fdb.specs.Entries.{find, put, place_of};
 ghost use Rattle.fdb.specs.Contents.{empty, most, learned, learnt, room_for, number_of};
 ghost use Rattle.fdb.specs.Held.{held, contents};
 
 use crate::entry::{Entry, Location};
-use crate::search::{locate, oldest_but};
 use crate::station::Station;
 use crate::table::{MOST, Table};
 use std::alloc::{AllocError, Global};
 
-// Puts an entry of a new station in its place; there is memory for it.
-fn insert(entries: &mut Vec<Entry>, entry: Entry)
-    requires sorted { ascending entries.old.items ≡ true }
-    requires new { find entry.station entries.old.items ≡ None }
-    requires room { vec_len entries.old < vec_capacity entries.old }
-    ensures items { entries.new.items ≡ put entry entries.old.items }
-    ensures len { vec_len entries.new ≡ vec_len entries.old + 1 }
-    ensures capacity { vec_capacity entries.new ≡ vec_capacity entries.old }
-{
-    if let Err(i) = locate(entries.as_slice(), entry.station) {
-        let _ = entries.insert(i, entry);
+impl Table {
+    // Whether there is no room for one more.
+    fn is_full(&self) -> bool
+        ensures { result ≡ nat_le most (length (held self.now)) }
+    {
+        self.entries.len() >= MOST
     }
-}
 
-// Whether there is no room for one more.
-fn is_full(entries: &[Entry]) -> bool
-    ensures { result ≡ nat_le most (length entries.now) }
-{
-    entries.len() >= MOST
-}
+    // Puts an entry of a new station in its place; there is memory for it.
+    fn insert(&mut self, entry: Entry)
+        requires new { find entry.station (held self.old) ≡ None }
+        requires room { length (held self.old) < 4096 }
+        ensures items { held self.new ≡ put entry (held self.old) }
+        ensures heard { self.new.heard ≡ self.old.heard }
+    {
+        let i = self.locate(entry.station).unwrap_err();
+        self.entries.insert(i, entry).unwrap();
+    }
 
-// Makes room for one more: of a full table the longest unheard of goes, but not the station that is kept.
-fn make_room(entries: &mut Vec<Entry>, keep: u64)
-    requires sorted { ascending entries.old.items ≡ true }
-    requires within { vec_len entries.old ≤ 4096 }
-    ensures items { entries.new.items ≡ room_for keep entries.old.items }
-    ensures room { vec_len entries.new < 4096 }
-    ensures capacity { vec_capacity entries.new ≡ vec_capacity entries.old }
-{
-    if is_full(entries.as_slice()) {
-        if let Some(i) = oldest_but(entries.as_slice(), keep) {
-            let _ = entries.remove(i);
+    // Makes room for one more: of a full table the longest unheard of goes, but not the station that is kept.
+    fn make_room(&mut self, keep: u64)
+        ensures items { held self.new ≡ room_for keep (held self.old) }
+        ensures room { length (held self.new) < 4096 }
+        ensures heard { self.new.heard ≡ self.old.heard }
+    {
+        if self.is_full() {
+            if let Some(oldest) = self.oldest_but(keep) {
+                self.entries.retain(|entry| entry.station != oldest.station);
+            }
         }
     }
-}
 
-// Writes down what was heard: over what was held of the station, or as a new entry.
-fn note(entries: &mut Vec<Entry>, entry: Entry, keep: u64)
-    requires sorted { ascending entries.old.items ≡ true }
-    requires room { (vec_len entries.old ≤ 4096) × (4096 ≤ vec_capacity entries.old) }
-    ensures items { entries.new.items ≡ learned entry keep entries.old.items }
-    ensures sorted { ascending entries.new.items ≡ true }
-    ensures room { (vec_len entries.new ≤ 4096) × (4096 ≤ vec_capacity entries.new) }
-{
-    match locate(entries.as_slice(), entry.station) {
-        Ok(i) => entries[i] = entry,
-        Err(_) => {
-            make_room(entries, keep);
-            insert(entries, entry);
+    // Writes down what was heard: over what was held of the station, or as a new entry.
+    fn note(&mut self, entry: Entry, keep: u64)
+        ensures items { held self.new ≡ learned entry keep (held self.old) }
+        ensures heard { self.new.heard ≡ self.old.heard }
+    {
+        match self.locate(entry.station) {
+            Ok(i) => self.entries[i] = entry,
+            Err(_) => {
+                self.make_room(keep);
+                self.insert(entry);
+            }
         }
     }
 }
 
 impl Table {
     // An empty table; an error if there is not the memory for a full one.
+    #[tactic(auto, unfolding(crate::specs::Entries::ascending))]
     pub fn new(heap: Global) -> Result<Self, AllocError>
         ensures { IfOk result (λ t. contents t ≡ empty) }
     {
@@ -75,6 +69,7 @@ impl Table {
     }
 
     // Forgets everything, as when the tree is given up; the memory stays.
+    #[tactic(auto, unfolding(crate::specs::Entries::ascending))]
     pub fn clear(&mut self)
         ensures { contents self.new ≡ empty }
     {
@@ -86,11 +81,8 @@ impl Table {
     pub fn lookup(&self, station: Station) -> Option<Location>
         ensures { result ≡ place_of (held self.now) (number_of station) }
     {
-        let entries = self.entries.as_slice();
-        match locate(entries, station.number()) {
-            Ok(i) => Some(entries[i].location),
-            Err(_) => None,
-        }
+        let i = self.locate(station.number()).ok()?;
+        Some(self.entries[i].location)
     }
 
     // A station was heard at a place and a tick, in a frame for the station `keep`: a known one is refreshed, or has moved; a new one is taken in.
@@ -107,6 +99,6 @@ impl Table {
             order: self.heard,
         };
         self.heard = self.heard.saturating_add(1);
-        note(&mut self.entries, entry, keep.number());
+        self.note(entry, keep.number());
     }
 }

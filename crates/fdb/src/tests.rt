@@ -17,17 +17,9 @@ use Step::{Forget, Hear, Known, Unknown};
 // Stations by short numbers; from 32,768 on their addresses are those of groups.
 fn numbered(n: u16) -> Station {
     let [high, low] = n.to_be_bytes();
-    let first = (n / 32768) as u8;
     Station {
-        address: [first, 0, 0, 0, high, low],
+        address: [u8::from(n >= 32768), 0, 0, 0, high, low],
         vlan: 7,
-    }
-}
-
-fn port_of(location: Option<Location>) -> Option<u8> {
-    match location {
-        Some(Location::Here(port)) => Some(port),
-        _ => None,
     }
 }
 
@@ -47,10 +39,10 @@ fn play(table: &mut Table, steps: &[Step]) -> usize {
                 table.forget(tick);
                 continue;
             }
-            Known(n, port) => (n, Some(port)),
+            Known(n, port) => (n, Some(Location::Here(port))),
             Unknown(n) => (n, None),
         };
-        if port_of(table.lookup(numbered(n))) != said {
+        if table.lookup(numbered(n)) != said {
             return i;
         }
     }

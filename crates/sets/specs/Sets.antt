@@ -10,7 +10,11 @@ bit n j = n / 2 ^ j % 2
 unfoldable pub has : ℕ → ℕ → Bool
 has s k = bit s (127 - k) == 1
 
--- the same, read from 16 bytes: the high bit of the first byte is bridge 0
+-- the bridges in the set are those of which p is true
+abbrev pub MembersAre : ℕ → (ℕ → Bool) → Type 0
+MembersAre s p = (k : ℕ) → k < 128 → has s k ≡ p k
+
+-- is bridge k in the set that 16 bytes say: the high bit of the first byte is bridge 0
 unfoldable pub has_byte : List ℕ → ℕ → Bool
 has_byte bs k = bit (slice_index bs (k / 8)) (7 - k % 8) == 1
 

@@ -1,10 +1,13 @@
 // Sets of bridges.
+#![tactic(auto, using(crate::proofs::Members::members))]
+
 ghost use Rattle.std.specs.Prelude.{◌≡◌, ℕ, ◌<◌, ◌≤◌, true, false, not, ◌&&◌, ◌||◌, MatchBool, MatchOption, ◌==◌};
-ghost use Rattle.sets.specs.Sets.{has, has_byte, bytes_of, number_of};
+ghost use Rattle.sets.specs.Sets.{has, has_byte, bytes_of, number_of, MembersAre};
 
-use crate::{BridgeId, mask};
+use crate::BridgeId;
 
-// A set of bridges, small enough to be passed by value: neighbours, and who can be reached.
+// A set of bridges, small enough to be passed by value: neighbours, and who can be reached. Bridge 0 is its highest bit, as
+// in a message.
 #[derive(Clone, Copy, PartialEq, Eq, Debug)]
 pub struct BridgeSet {
     bits: u128,
@@ -13,84 +16,83 @@ pub struct BridgeSet {
 impl BridgeSet {
     // No bridge at all.
     pub fn empty() -> BridgeSet
-        ensures { (k : ℕ) → k < 128 → has result.bits k ≡ false }
+        ensures { MembersAre result.bits (λ _. false) }
     {
-        BridgeSet { bits: mask::none() }
+        BridgeSet { bits: 0 }
     }
 
     // One bridge alone.
     pub fn only(b: BridgeId) -> BridgeSet
-        ensures { (k : ℕ) → k < 128 → has result.bits k ≡ (k == b.value) }
+        ensures { MembersAre result.bits (λ k. k == b.value) }
     {
         BridgeSet {
-            bits: mask::bit_of(b),
+            bits: 1 << (127 - b.index()),
         }
     }
 
     // Is the bridge in it?
+    #[tactic(auto, unfolding(crate::specs::Sets::has))]
     pub fn contains(self, b: BridgeId) -> bool
         ensures { result ≡ has self.bits b.value }
     {
-        mask::holds(self.bits, b)
+        (self.bits >> (127 - b.index())) % 2 == 1
     }
 
     // The set with the bridge in it.
     pub fn with(self, b: BridgeId) -> BridgeSet
-        ensures { (k : ℕ) → k < 128 → has result.bits k ≡ (k == b.value || has self.bits k) }
+        ensures { MembersAre result.bits (λ k. k == b.value || has self.bits k) }
     {
-        BridgeSet {
-            bits: mask::either(mask::bit_of(b), self.bits),
-        }
+        BridgeSet::only(b).union(self)
     }
 
     // The set with the bridge left out.
     pub fn without(self, b: BridgeId) -> BridgeSet
-        ensures { (k : ℕ) → k < 128 → has result.bits k ≡ (not (k == b.value) && has self.bits k) }
+        ensures { MembersAre result.bits (λ k. not (k == b.value) && has self.bits k) }
     {
-        BridgeSet {
-            bits: mask::both(mask::complement(mask::bit_of(b)), self.bits),
-        }
+        self.difference(BridgeSet::only(b))
     }
 
     // What is in either.
     pub fn union(self, other: BridgeSet) -> BridgeSet
-        ensures { (k : ℕ) → k < 128 → has result.bits k ≡ (has self.bits k || has other.bits k) }
+        ensures { MembersAre result.bits (λ k. has self.bits k || has other.bits k) }
     {
         BridgeSet {
-            bits: mask::either(self.bits, other.bits),
+            bits: self.bits | other.bits,
         }
     }
 
     // What is in both.
     pub fn intersection(self, other: BridgeSet) -> BridgeSet
-        ensures { (k : ℕ) → k < 128 → has result.bits k ≡ (has self.bits k && has other.bits k) }
+        ensures { MembersAre result.bits (λ k. has self.bits k && has other.bits k) }
     {
         BridgeSet {
-            bits: mask::both(self.bits, other.bits),
+            bits: self.bits & other.bits,
         }
     }
 
     // What is in this one and not in the other.
     pub fn difference(self, other: BridgeSet) -> BridgeSet
-        ensures { (k : ℕ) → k < 128 → has result.bits k ≡ (has self.bits k && not (has other.bits k)) }
+        ensures { MembersAre result.bits (λ k. has self.bits k && not (has other.bits k)) }
     {
         BridgeSet {
-            bits: mask::both(self.bits, mask::complement(other.bits)),
+            bits: self.bits & !other.bits,
         }
     }
 
     // Is nothing in it?
     pub fn is_empty(self) -> bool
-        ensures { MatchBool result ((k : ℕ) → k < 128 → has self.bits k ≡ false) ((k : ℕ) × (k < 128) × (has self.bits k ≡ true)) }
+        ensures { MatchBool result (MembersAre self.bits (λ _. false)) ((k : ℕ) × (k < 128) × (has self.bits k ≡ true)) }
     {
         self.first().is_none()
     }
 
     // The lowest bridge in it: None where nothing is in it.
+    #[tactic(auto, using(crate::proofs::Members::first_in, crate::proofs::Members::none_before))]
     pub fn first(self) -> Option<BridgeId>
-        ensures { MatchOption result ((k : ℕ) → k < 128 → has self.bits k ≡ false) (λ b. (has self.bits b.value ≡ true) × ((k : ℕ) → k < b.value → has self.bits k ≡ false)) }
+        ensures { MatchOption result (MembersAre self.bits (λ _. false)) (λ b. (has self.bits b.value ≡ true) × ((k : ℕ) → k < b.value → has self.bits k ≡ false)) }
     {
-        BridgeId::new(mask::lowest(self.bits))
+        // Stays: the cast is proved to fit, and `u8::try_from(..)` would add an error that never comes.
+        BridgeId::new(self.bits.leading_zeros() as u8)
     }
 
     // The set as it stands in a message: the high bit of the first byte is bridge 0.
@@ -98,16 +100,16 @@ impl BridgeSet {
         ensures whole { result ≡ bytes_of self.bits }
         ensures members { (k : ℕ) → k < 128 → has_byte result k ≡ has self.bits k }
     {
-        mask::to_bytes(self.bits)
+        self.bits.to_be_bytes()
     }
 
     // The set that 16 bytes of a message say.
     pub fn from_bytes(bytes: [u8; 16]) -> BridgeSet
         ensures whole { result.bits ≡ number_of bytes }
-        ensures members { (k : ℕ) → k < 128 → has result.bits k ≡ has_byte bytes k }
+        ensures members { MembersAre result.bits (has_byte bytes) }
     {
         BridgeSet {
-            bits: mask::from_bytes(bytes),
+            bits: u128::from_be_bytes(bytes),
         }
     }
 }

@@ -3,7 +3,6 @@
 
 mod bridge_id;
 mod bridge_set;
-mod mask;
 
 ghost use Rattle.sets.specs.Sets.{SameMembers, ThereAndBack};
 
@@ -13,7 +12,9 @@ pub use bridge_set::BridgeSet;
 // The most bridges of a net: every bridge's number is below it.
 pub const MOST_BRIDGES: usize = 128;
 
+// Stays: it compares nothing, and its name is the theorem's.
 // Two sets with the same members are one set: a set is what is in it.
+#[tactic(auto, using(crate::proofs::Members::same_members))]
 pub fn same_members_stands() -> u8
     ensures { SameMembers }
 {
@@ -21,6 +22,7 @@ pub fn same_members_stands() -> u8
 }
 
 // A set comes back from its bytes, and 16 bytes from the set that they say: a message carries a set whole.
+#[tactic(auto, using(crate::proofs::InBytes::there_and_back))]
 pub fn there_and_back_stands() -> u8
     ensures { ThereAndBack }
 {
@@ -34,10 +36,7 @@ mod tests {
     use std::test::Fail;
 
     fn bridge(number: u8) -> Result<BridgeId, Fail> {
-        match BridgeId::new(number) {
-            Some(b) => Ok(b),
-            None => Err(Fail::new("no bridge has this number")),
-        }
+        BridgeId::new(number).ok_or_else(|| Fail::new("no bridge has this number"))
     }
 
     #[test]
@@ -59,6 +58,19 @@ mod tests {
             assert_eq!(rt; s.first(), Some(b));
             assert!(rt; s.contains(b) && s.without(b).is_empty());
         }
+        Ok(())
+    }
+
+    #[test]
+    fn printed_and_ordered(rt: HostRuntime) -> Result<(), Fail> {
+        let alloc = rt.alloc();
+        let seven = bridge(7)?;
+        let last = bridge(127)?;
+        assert_eq!(rt;
+            format!(in alloc; "{seven} {last} {seven:>4}")?.as_str(),
+            "7 127    7"
+        );
+        assert!(rt; seven < last && last.max(seven) == last);
         Ok(())
     }
 

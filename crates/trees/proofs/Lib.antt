@@ -3,4 +3,3 @@ pub mod Simple
 pub mod Ahead
 pub mod Shapes
 pub mod Ids
-mod Neighbours

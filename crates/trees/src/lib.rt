@@ -15,6 +15,7 @@ pub use tree_id::TreeId;
 pub use walks::walks_are_simple;
 
 // Trees' numbers go by the sequence number, then by the announcer, then by the nonce.
+#[tactic(auto, using(crate::proofs::Ids::ordered_by_parts))]
 pub fn ordered_by_parts_stands() -> u8
     ensures { OrderedByParts }
 {
@@ -22,6 +23,7 @@ pub fn ordered_by_parts_stands() -> u8
 }
 
 // Trees with one number have one sequence number, announcer and nonce.
+#[tactic(auto, using(crate::proofs::Ids::one_number_one_id))]
 pub fn one_number_one_id_stands() -> u8
     ensures { OneNumberOneId }
 {
@@ -29,6 +31,7 @@ pub fn one_number_one_id_stands() -> u8
 }
 
 // What looks like a tree: each bridge is its own parent, or deeper than its parent.
+#[tactic(auto, using(crate::proofs::Shapes::looks_in_words))]
 pub fn looks_in_words_stands() -> u8
     ensures { LooksInWords }
 {
@@ -43,17 +46,13 @@ mod tests {
     use std::test::Fail;
 
     fn bridge(number: u8) -> Result<BridgeId, Fail> {
-        match BridgeId::new(number) {
-            Some(b) => Ok(b),
-            None => Err(Fail::new("no bridge has this number")),
-        }
+        BridgeId::new(number).ok_or_else(|| Fail::new("no bridge has this number"))
     }
 
     fn tree_id(seq: u32, announcer: u8, nonce: u32) -> Result<TreeId, Fail> {
-        match TreeId::new(seq, bridge(announcer)?, nonce) {
-            Some(id) => Ok(id),
-            None => Err(Fail::new("no tree has this number")),
-        }
+        TreeId::new(seq, bridge(announcer)?, nonce).ok_or_else(|| Fail::new(
+            "no tree has this number",
+        ))
     }
 
     // What becomes of a ring of 0, 1, 2 and 3 in which 1 and 3 are below 0, and 2 is below `above` at `deep`.
@@ -63,10 +62,7 @@ mod tests {
         depth[0] = 0;
         parent[2] = above;
         depth[2] = deep;
-        match Tree::new(tree_id(1, 0, 7)?, parent, depth) {
-            Ok(_) => Ok(None),
-            Err(fault) => Ok(Some(fault)),
-        }
+        Ok(Tree::new(tree_id(1, 0, 7)?, parent, depth).err())
     }
 
     #[test]
@@ -95,22 +91,16 @@ mod tests {
         parent[2] = 1;
         depth[2] = 2;
         let (zero, one, two) = (bridge(0)?, bridge(1)?, bridge(2)?);
-        match Tree::new(tree_id(1, 0, 7)?, parent, depth) {
-            Ok(ring) => {
-                assert_eq!(rt; ring.neighbours(one), BridgeSet::only(zero).with(two));
-                assert!(rt; !ring.is_joined(zero, two) && !ring.is_joined(one, one));
-                assert!(rt; ring.parent_of(two).value() == 1 && ring.depth_of(two) == 2);
-            }
-            Err(_) => return Err(Fail::new("a ring has a tree")),
-        }
+        let ring = Tree::new(tree_id(1, 0, 7)?, parent, depth).map_err(|_| Fail::new(
+            "a ring has a tree",
+        ))?;
+        assert_eq!(rt; ring.neighbours(one), BridgeSet::only(zero).with(two));
+        assert!(rt; !ring.is_joined(zero, two) && !ring.is_joined(one, one));
+        assert!(rt; ring.parent_of(two).value() == 1 && ring.depth_of(two) == 2);
         parent[1] = 2;
-        match Tree::new(tree_id(1, 0, 7)?, parent, depth) {
-            Ok(_) => Err(Fail::new("1 is above 2, and 2 above 1")),
-            Err(fault) => {
-                assert_eq!(rt; fault, TreeFault::NotATree);
-                Ok(())
-            },
-        }
+        let fault = Tree::new(tree_id(1, 0, 7)?, parent, depth).err();
+        assert_eq!(rt; fault, Some(TreeFault::NotATree));
+        Ok(())
     }
 
     #[test]

@@ -1,7 +1,6 @@
 // Whether rows of parents and depths are a tree.
 ghost use Rattle.std.specs.Prelude.{◌≡◌, ℕ, ◌<◌, ◌≤◌, MatchBool};
-ghost use Rattle.trees.specs.Tree.{looks};
-ghost use Rattle.trees.specs.Shapes.{shaped, Named, Unnamed};
+ghost use Rattle.trees.specs.Shapes.{shaped, Named, Unnamed, Hangs};
 
 use sets::MOST_BRIDGES;
 
@@ -13,27 +12,22 @@ pub enum TreeFault {
 }
 
 // Is every parent a bridge?
+// Stays: it compares nothing by hand: a test of a whole row, by `all`.
 pub(crate) fn is_named(parent: &[u8; MOST_BRIDGES]) -> bool
     ensures { MatchBool result (Named parent.now) (Unnamed parent.now) }
 {
-    for b in 0..MOST_BRIDGES {
-        if parent[b] as usize >= MOST_BRIDGES {
-            return false;
-        }
-    }
-    true
+    parent
+        .iter()
+        .all(|above| usize::from(*above) < MOST_BRIDGES)
 }
 
 // Is every bridge its own parent, or deeper than its parent?
 pub(crate) fn is_tree(parent: &[u8; MOST_BRIDGES], depth: &[u8; MOST_BRIDGES]) -> bool
     requires { Named parent.now }
-    ensures { (n : ℕ) → result ≡ looks 128 (shaped n parent.now depth.now) }
+    ensures { (n : ℕ) → MatchBool result ((b : ℕ) → b < 128 → Hangs (shaped n parent.now depth.now) b) ((b : ℕ) × (b < 128) × ¬ Hangs (shaped n parent.now depth.now) b) }
 {
-    for b in 0..MOST_BRIDGES {
-        let above = parent[b] as usize;
-        if above != b && depth[above] >= depth[b] {
-            return false;
-        }
-    }
-    true
+    (0..MOST_BRIDGES).all(|b| {
+        let above = usize::from(parent[b]);
+        above == b || depth[above] < depth[b]
+    })
 }

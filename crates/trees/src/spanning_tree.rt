@@ -13,6 +13,7 @@ use sets::MOST_BRIDGES;
 #[derive(Clone, Copy)]
 pub struct Tree {
     id: TreeId,
+    // Stays: no row of pairs, since `meaning`, `shaped` and the clauses of `Tree::new` speak of a row of parents and one of depths.
     parent: [u8; MOST_BRIDGES],
     depth: [u8; MOST_BRIDGES],
     ghost named: { Named parent },

@@ -1,6 +1,6 @@
 // Making a tree, and who is joined to whom in it.
 ghost use Rattle.std.specs.Prelude.{◌≡◌, ℕ, ◌<◌, ◌≤◌, MatchResult};
-ghost use Rattle.sets.specs.Sets.{has};
+ghost use Rattle.sets.specs.Sets.{MembersAre};
 ghost use Rattle.trees.specs.Tree.{joined};
 ghost use Rattle.trees.specs.Ids.{id_number};
 ghost use Rattle.trees.specs.Meanings.{meaning, Refused};
@@ -11,6 +11,7 @@ use sets::{BridgeId, BridgeSet, MOST_BRIDGES};
 
 impl Tree {
     // The tree with these parents and depths, if they are one.
+    // Stays: a public function takes no other type than before.
     pub fn new(
         id: TreeId,
         parent: [u8; MOST_BRIDGES],
@@ -38,10 +39,7 @@ impl Tree {
     pub fn parent_of(&self, b: BridgeId) -> BridgeId
         ensures { result.value ≡ (meaning self.now).above b.value }
     {
-        match BridgeId::new(self.parent[b.index()]) {
-            Some(parent) => parent,
-            None => unreachable(),
-        }
+        BridgeId::new(self.parent[b.index()]).unwrap()
     }
 
     // How far the bridge is from the top of its part.
@@ -55,19 +53,18 @@ impl Tree {
     pub fn is_joined(&self, a: BridgeId, b: BridgeId) -> bool
         ensures { result ≡ joined (meaning self.now) a.value b.value }
     {
-        a.value() != b.value()
-            && (self.parent_of(a).value() == b.value() || self.parent_of(b).value() == a.value())
+        a != b && (self.parent_of(a) == b || self.parent_of(b) == a)
     }
 
     // All that are joined to the bridge: where its frames may go.
     pub fn neighbours(&self, b: BridgeId) -> BridgeSet
-        ensures { (k : ℕ) → k < 128 → has result.bits k ≡ joined (meaning self.now) b.value k }
+        ensures { MembersAre result.bits (joined (meaning self.now) b.value) }
     {
         let mut found = BridgeSet::empty();
+        // Stays: at `.filter_map(BridgeId::new).filter(..).fold(BridgeSet::empty(), BridgeSet::with)` the check leaves `returns` open:
+        // what the fold holds. The cast is of a constant, and no From narrows a usize.
         for k in 0..MOST_BRIDGES as u8 {
-            let Some(c) = BridgeId::new(k) else {
-                break;
-            };
+            let c = BridgeId::new(k).unwrap();
             if self.is_joined(b, c) {
                 found = found.with(c);
             }

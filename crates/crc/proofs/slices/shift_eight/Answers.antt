@@ -5,6 +5,6 @@ use Rattle.crc.proofs.slices.shift_eight.Goals as goal
 
 pub returns : goal.returns
 returns c =
-    (λ i. bit_xor (bit_xor (bit_xor (bit_xor (bit_xor (bit_xor (bit_xor (c.by8.ensures i) (c.by7.ensures i)) (c.by6.ensures i)) (c.by5.ensures i))
-    (c.by4.ensures i)) (c.by3.ensures i)) (c.by2.ensures i)) (c.by1.ensures i))
+    (λ i. bit_xor (bit_xor (bit_xor (bit_xor (bit_xor (bit_xor (bit_xor (c.by.ensures i) (c.by-2.ensures i)) (c.by-3.ensures i)) (c.by-4.ensures i))
+    (c.by-5.ensures i)) (c.by-6.ensures i)) (c.by-7.ensures i)) (c.by-8.ensures i))
     ∙ shifted_eight c.args.word c.to_le_bytes.result c.ranges.word.fits c.to_le_bytes.ensures

@@ -1,5 +1,8 @@
-use Rattle.std.proofs.Common.{refl, ◌∙◌, rules}
-use Rattle.crc.proofs.Linear.{through-next, through-end, crc_through}
+use Rattle.std.proofs.Common.{◌≡◌, refl, ◌∙◌, rules}
+use lib.Bits.{bit_xor}
+use Rattle.std.specs.List.{fold}
+use Rattle.crc.specs.Crc.{after}
+use Rattle.crc.proofs.Linear.{through-fold, crc_through}
 use Rattle.crc.proofs.Eight.{through-eight, tail_bytes}
 use Rattle.crc.proofs.slices.taken_in.Goals as goal
 
@@ -15,17 +18,10 @@ loop-rest-preserved c =
       tail_bytes xs inv.1,
     )
 
-pub loop-byte-preserved : goal.loop-byte-preserved
-loop-byte-preserved c =
-    let e = through-next c.loop-byte.register c.loop-byte.byte-index c.loop-rest.rest.now c.loop-byte-test.true
-    (c.loop-rest.invariant.1 c.loop-byte.byte-index) in
-    cc
-
-pub loop-byte-init : goal.loop-byte-init
-loop-byte-init c = c.loop-rest.invariant.0
-
 pub returns : goal.returns
 returns c =
-    let e = through-end c.loop-byte.register c.loop-byte.byte-index c.loop-rest.rest.now c.loop-byte-test.false in
+    let each : c.fold.result ≡ fold (λ register byte. after 8 (bit_xor register byte)) c.loop-rest.register c.loop-rest.rest.now = search rules in
+    let tail = through-fold c.loop-rest.register c.loop-rest.rest.now c.loop-rest.invariant.1 in
     let s = crc_through c.args.bytes.now in
+    let whole = c.loop-rest.invariant.0 in
     cc

@@ -1,4 +1,4 @@
-use Rattle.std.proofs.Common.{◌≡◌, ℕ, ◌<◌, length, get_or, drop}
+use Rattle.std.proofs.Common.{◌≡◌, ℕ, ◌<◌, length, get_or}
 use Rattle.crc.specs.Crc.{through, all_ones}
 use Rattle.crc.proofs.slices.taken_in.Given as goal
 
@@ -7,6 +7,3 @@ invariant-loop-rest l = (through l.register l.rest ≡ through all_ones l.bytes)
 
 abbrev pub decreases-loop-rest : goal.decreases-loop-rest
 decreases-loop-rest l = length l.rest
-
-abbrev pub invariant-loop-byte : goal.invariant-loop-byte
-invariant-loop-byte l = through l.register (drop l.byte-index l.byte-items) ≡ through all_ones l.bytes
