@@ -7,7 +7,7 @@ use crate::StationFrame;
 use sets::BridgeId;
 use std::alloc::AllocError;
 use trees::TreeId;
-use wire::{Fault, Reader, append_summed, is_summed, kind_of, tree_id_bytes};
+use wire::{Fault, Kind, Reader, append_summed, is_summed, tree_id_bytes};
 
 // The bridge that a frame is handed on by, the one that it is for, its tree, and the vlan that it came from. The frame itself is lent on by `inner_frame`.
 #[derive(Clone, Copy)]
@@ -23,12 +23,10 @@ impl Header {
     pub fn decode(bytes: &[u8]) -> Result<Header, Fault>
         ensures { DecodesForwarded bytes.now result }
     {
-        if kind_of(bytes) != 1 || !is_summed(bytes) {
+        if Kind::of(bytes)? != Kind::Frame || !is_summed(bytes) {
             return Err(Fault::Malformed);
         }
-        if let Err(fault) = inner_frame(bytes) {
-            return Err(fault);
-        }
+        inner_frame(bytes)?;
         Header::named_in(bytes)
     }
 
@@ -40,18 +38,10 @@ impl Header {
             return Err(Fault::Malformed);
         }
         let mut reader = Reader::at(bytes, 1);
-        let Ok(by) = reader.bridge() else {
-            return Err(Fault::NotThere);
-        };
-        let Ok(next) = reader.bridge() else {
-            return Err(Fault::NotThere);
-        };
-        let Ok(tree) = reader.tree_id() else {
-            return Err(Fault::NotThere);
-        };
-        let Some(vlan) = reader.two() else {
-            return Err(Fault::Malformed);
-        };
+        let by = reader.bridge()?;
+        let next = reader.bridge()?;
+        let tree = reader.tree_id()?;
+        let vlan = reader.two()?;
         if vlan == 0 || vlan > 4094 {
             return Err(Fault::NotThere);
         }
@@ -71,13 +61,14 @@ impl Header {
     }
 
     // The header's bytes.
+    // Stays: put together by letters, since no type can name an array whose length is a sum.
     fn head(self) -> [u8; 13]
         ensures { result ≡ header_bytes self }
     {
         let [a, b, c, d, e, f, g, h] = tree_id_bytes(self.tree);
         let [i, j] = self.vlan.to_be_bytes();
         [
-            1,
+            Kind::Frame.byte(),
             self.by.value(),
             self.next.value(),
             a,
@@ -102,8 +93,6 @@ pub fn inner_frame(bytes: &[u8]) -> Result<StationFrame<'_>, Fault>
         return Err(Fault::Malformed);
     }
     let mut reader = Reader::at(bytes, 13);
-    let Some(inner) = reader.part(bytes.len() - 17) else {
-        return Err(Fault::Malformed);
-    };
+    let inner = reader.part(bytes.len() - 17)?;
     StationFrame::decode(inner)
 }

@@ -13,6 +13,7 @@ pub const MOST_PORTS: usize = 16;
 pub struct Settings {
     pub bridge: BridgeId,
     pub incarnation: u32,
+    // Stays: a length beside a row, and 0 for no vlan, since settings are of fixed size, on no heap, and callers write both fields.
     pub ports: u8,
     pub vlans: [u16; 16],
     ghost room: { ports ≤ 16 },

@@ -2,7 +2,7 @@
 ghost use Rattle.std.specs.Prelude.{◌≡◌, Decides};
 ghost use Rattle.frames.specs.StationFrames.{DecodesStationFrame, ReadsAtAccess};
 
-use wire::{Fault, Reader, is_whole};
+use wire::{Fault, Kind, Reader};
 
 // Whom a frame is for, whom it is from, and the whole of it as it came: it is handed on as a part of what came.
 #[derive(Clone, Copy)]
@@ -24,17 +24,15 @@ impl<'a> StationFrame<'a> {
             return Err(Fault::GroupSender);
         }
         let mut reader = Reader::at(bytes, 0);
-        let Some(to) = reader.address() else {
-            return Err(Fault::Malformed);
-        };
-        let Some(from) = reader.address() else {
-            return Err(Fault::Malformed);
-        };
+        let to = reader.array()?;
+        let from = reader.array()?;
         Ok(StationFrame { to, from, bytes })
     }
 }
 
 // What can come by an access port: a station's frame, or a whole hello, which shows that a bridge is at the other end.
+// Stays: an Option<StationFrame> would name no hello.
+#[derive(Clone, Copy)]
 pub enum AtAccess<'a> {
     Hello,
     Frame(StationFrame<'a>),
@@ -44,7 +42,7 @@ pub enum AtAccess<'a> {
 pub fn read_at_access(bytes: &[u8]) -> Result<AtAccess<'_>, Fault>
     ensures { ReadsAtAccess bytes.now result }
 {
-    if is_whole(bytes, 2, 14) {
+    if Kind::Hello.is_whole(bytes, 14) {
         return Ok(AtAccess::Hello);
     }
     let frame = StationFrame::decode(bytes)?;
@@ -52,6 +50,7 @@ pub fn read_at_access(bytes: &[u8]) -> Result<AtAccess<'_>, Fault>
 }
 
 // Are the addresses one?
+// Stays: public; addresses are strings of bytes, and `==` on the arrays says the same.
 pub fn same_address(a: &[u8; 6], b: &[u8; 6]) -> bool
     ensures { Decides result (a.now ≡ b.now) }
 {

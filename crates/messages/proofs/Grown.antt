@@ -11,7 +11,8 @@ use Rattle.trees.specs.declared.shape.TreeFault.TheVariants.{NoSuchBridge, NotAT
 use Rattle.wire.specs.declared.fault.Fault.TheVariants as wire
 use Rattle.wire.specs.Bytes.{whole}
 use Rattle.wire.specs.TreeIds.{TreeIdSays}
-use Rattle.messages.specs.TreeBytes.{parents_in, depths_in, number_in, tree_fault, fault_of, TreeSays}
+use Rattle.wire.specs.Faults.{fault_of}
+use Rattle.messages.specs.TreeBytes.{parents_in, depths_in, number_in, tree_fault, TreeSays}
 use Rattle.messages.proofs.Columns.{length-row}
 
 all_below_lem : (m : ℕ) (xs : List ℕ) → ((k : ℕ) → k < length xs → get_or xs k 0 < m) → all_below m xs ≡ true

@@ -4,9 +4,6 @@ use Rattle.trees.specs.Tree.{all_below, looks}
 use Rattle.trees.specs.Shapes.{shaped}
 use Rattle.trees.specs.declared.spanning_tree.Tree.{Tree}
 use Rattle.trees.specs.declared.tree_id.TreeId.{TreeId}
-use Rattle.trees.specs.declared.shape.TreeFault.{TreeFault}
-use Rattle.trees.specs.declared.shape.TreeFault.TheVariants.{NoSuchBridge}
-use Rattle.trees.specs.declared.shape.TreeFault.TheVariants as trees
 use Rattle.wire.specs.declared.fault.Fault.{Fault}
 use Rattle.wire.specs.declared.fault.Fault.TheVariants.{Malformed, NotThere, NotATree}
 use Rattle.wire.specs.Bytes.{three, four, pairs_of, whole, with_sum}
@@ -35,10 +32,6 @@ tree_fault b =
     (cond (looks 128 (shaped (number_in b) (parents_in b) (depths_in b))) None (Some NotATree))
     (Some NotThere))
     (Some Malformed)
-
-abbrev pub fault_of : TreeFault → Fault
-fault_of NoSuchBridge = NotThere
-fault_of trees.NotATree = NotATree
 
 -- what it says
 pub record TreeSays (b : List ℕ) (t : Tree) : Type 0 where

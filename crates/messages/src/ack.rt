@@ -1,11 +1,12 @@
 // Acknowledgements: that a bridge has a link state or a tree.
 ghost use Rattle.std.specs.Prelude.{◌≡◌, ◌++◌, length, is_ok, if◌then◌else◌};
 ghost use Rattle.messages.specs.Acks.{DecodesAck, DecodesLinkStateAck, DecodesTreeAck, ack_bytes, ack_head, acked_link_state};
+ghost use Rattle.wire.specs.Kinds.{byte_of};
 
 use sets::BridgeId;
 use std::alloc::AllocError;
 use trees::TreeId;
-use wire::{Count, Fault, Reader, append_summed, is_whole, tree_id_bytes};
+use wire::{Count, Fault, Kind, Reader, append_summed, tree_id_bytes};
 
 // What a bridge has: the link state of a bridge, named by that bridge's start and count, or the tree with a number.
 #[derive(Clone, Copy)]
@@ -26,10 +27,10 @@ impl Ack {
     pub fn decode(bytes: &[u8]) -> Result<Ack, Fault>
         ensures { DecodesAck bytes.now result }
     {
-        if is_whole(bytes, 5, 21) {
+        if Kind::Ack.is_whole(bytes, 21) {
             return of_link_state(bytes);
         }
-        if is_whole(bytes, 5, 18) {
+        if Kind::Ack.is_whole(bytes, 18) {
             return of_tree(bytes);
         }
         Err(Fault::Malformed)
@@ -42,9 +43,13 @@ impl Ack {
         match self.acked {
             Acked::LinkState(bridge, incarnation, count) => {
                 let named = link_state_bytes(bridge, incarnation, count);
-                append_summed(out, &head(self.incarnation, 3), &named)
+                append_summed(out, &head(self.incarnation, Kind::LinkState), &named)
             }
-            Acked::Tree(id) => append_summed(out, &head(self.incarnation, 4), &tree_id_bytes(id)),
+            Acked::Tree(id) => append_summed(
+                out,
+                &head(self.incarnation, Kind::Tree),
+                &tree_id_bytes(id),
+            ),
         }
     }
 }
@@ -55,21 +60,13 @@ fn of_link_state(bytes: &[u8]) -> Result<Ack, Fault>
     ensures { DecodesLinkStateAck bytes.now result }
 {
     let mut reader = Reader::at(bytes, 1);
-    let Some(incarnation) = reader.four() else {
+    let incarnation = reader.four()?;
+    if Kind::try_from(reader.byte()?)? != Kind::LinkState {
         return Err(Fault::Malformed);
-    };
-    let Some(3) = reader.byte() else {
-        return Err(Fault::Malformed);
-    };
-    let Ok(bridge) = reader.bridge() else {
-        return Err(Fault::NotThere);
-    };
-    let Some(of) = reader.four() else {
-        return Err(Fault::Malformed);
-    };
-    let Some(count) = reader.count() else {
-        return Err(Fault::Malformed);
-    };
+    }
+    let bridge = reader.bridge()?;
+    let of = reader.four()?;
+    let count = reader.count()?;
     Ok(Ack {
         incarnation,
         acked: Acked::LinkState(bridge, of, count),
@@ -82,15 +79,11 @@ fn of_tree(bytes: &[u8]) -> Result<Ack, Fault>
     ensures { DecodesTreeAck bytes.now result }
 {
     let mut reader = Reader::at(bytes, 1);
-    let Some(incarnation) = reader.four() else {
+    let incarnation = reader.four()?;
+    if Kind::try_from(reader.byte()?)? != Kind::Tree {
         return Err(Fault::Malformed);
-    };
-    let Some(4) = reader.byte() else {
-        return Err(Fault::Malformed);
-    };
-    let Ok(id) = reader.tree_id() else {
-        return Err(Fault::NotThere);
-    };
+    }
+    let id = reader.tree_id()?;
     Ok(Ack {
         incarnation,
         acked: Acked::Tree(id),
@@ -98,14 +91,16 @@ fn of_tree(bytes: &[u8]) -> Result<Ack, Fault>
 }
 
 // The bytes before what is acknowledged.
-fn head(incarnation: u32, kind: u8) -> [u8; 6]
-    ensures { result ≡ ack_head incarnation kind }
+// Stays: put together by letters, since no type can name an array whose length is a sum.
+fn head(incarnation: u32, acked: Kind) -> [u8; 6]
+    ensures { result ≡ ack_head incarnation (byte_of acked) }
 {
     let [a, b, c, d] = incarnation.to_be_bytes();
-    [5, a, b, c, d, kind]
+    [Kind::Ack.byte(), a, b, c, d, acked.byte()]
 }
 
 // The bytes that name a link state.
+// Stays: put together by letters, since no type can name an array whose length is a sum.
 fn link_state_bytes(bridge: BridgeId, incarnation: u32, count: Count) -> [u8; 11]
     ensures { result ≡ acked_link_state bridge incarnation count }
 {

@@ -5,7 +5,7 @@ ghost use Rattle.messages.specs.Hellos.{DecodesHello, hello_bytes};
 
 use sets::BridgeId;
 use std::alloc::AllocError;
-use wire::{Fault, Reader, append_summed, is_whole};
+use wire::{Fault, Kind, append_summed};
 
 // A bridge's number, the number of its start, and the number of the start that it heard there: so that a neighbour knows that it is heard.
 #[derive(Clone, Copy)]
@@ -20,22 +20,10 @@ impl Hello {
     pub fn decode(bytes: &[u8]) -> Result<Hello, Fault>
         ensures { DecodesHello bytes.now result }
     {
-        if !is_whole(bytes, 2, 14) {
-            return Err(Fault::Malformed);
-        }
-        let mut reader = Reader::at(bytes, 1);
-        let Some(bridge) = reader.byte() else {
-            return Err(Fault::Malformed);
-        };
-        let Some(incarnation) = reader.four() else {
-            return Err(Fault::Malformed);
-        };
-        let Some(heard) = reader.four() else {
-            return Err(Fault::Malformed);
-        };
-        let Some(bridge) = BridgeId::new(bridge) else {
-            return Err(Fault::NotThere);
-        };
+        let mut reader = Kind::Hello.open(bytes, 14)?;
+        let bridge = reader.bridge()?;
+        let incarnation = reader.four()?;
+        let heard = reader.four()?;
         Ok(Hello {
             bridge,
             incarnation,
@@ -47,9 +35,15 @@ impl Hello {
     pub fn encode(self, out: &mut Vec<u8>) -> Result<(), AllocError>
         ensures { out.new.items ≡ (if is_ok result then out.old.items ++ hello_bytes self else out.old.items) }
     {
+        // Stays: put together by letters, since no type can name an array whose length is a sum.
         let [a, b, c, d] = self.incarnation.to_be_bytes();
         let [e, f, g, h] = self.heard.to_be_bytes();
-        append_summed(out, &[2, self.bridge.value(), a, b, c, d, e, f, g, h], &[])
+        let kind = Kind::Hello.byte();
+        append_summed(
+            out,
+            &[kind, self.bridge.value(), a, b, c, d, e, f, g, h],
+            &[],
+        )
     }
 }
 
@@ -57,5 +51,5 @@ impl Hello {
 pub fn is_hello(bytes: &[u8]) -> bool
     ensures { result ≡ whole 2 14 bytes.now }
 {
-    is_whole(bytes, 2, 14)
+    Kind::Hello.is_whole(bytes, 14)
 }

@@ -4,7 +4,7 @@ ghost use Rattle.messages.specs.LinkStates.{DecodesLinkState, link_state_bytes, 
 
 use sets::{BridgeId, BridgeSet};
 use std::alloc::AllocError;
-use wire::{Count, Fault, Reader, append_summed, is_whole};
+use wire::{Count, Fault, Kind, append_summed};
 
 // What a bridge says of itself: the neighbours to which its links are up, with a count by which the newer of two is told.
 #[derive(Clone, Copy)]
@@ -20,25 +20,11 @@ impl LinkState {
     pub fn decode(bytes: &[u8]) -> Result<LinkState, Fault>
         ensures { DecodesLinkState bytes.now result }
     {
-        if !is_whole(bytes, 3, 32) {
-            return Err(Fault::Malformed);
-        }
-        let mut reader = Reader::at(bytes, 1);
-        let Some(bridge) = reader.byte() else {
-            return Err(Fault::Malformed);
-        };
-        let Some(incarnation) = reader.four() else {
-            return Err(Fault::Malformed);
-        };
-        let Some(count) = reader.count() else {
-            return Err(Fault::Malformed);
-        };
-        let Some(neighbours) = reader.sixteen() else {
-            return Err(Fault::Malformed);
-        };
-        let Some(bridge) = BridgeId::new(bridge) else {
-            return Err(Fault::NotThere);
-        };
+        let mut reader = Kind::LinkState.open(bytes, 32)?;
+        let bridge = reader.bridge()?;
+        let incarnation = reader.four()?;
+        let count = reader.count()?;
+        let neighbours = reader.array()?;
         Ok(LinkState {
             bridge,
             incarnation,
@@ -55,11 +41,13 @@ impl LinkState {
     }
 
     // All that stands before the neighbours.
+    // Stays: put together by letters, since no type can name an array whose length is a sum.
     fn head(self) -> [u8; 12]
         ensures { result ≡ link_state_head self }
     {
         let [a, b, c, d] = self.incarnation.to_be_bytes();
         let [_, _, e, f, g, h, i, j] = self.count.value().to_be_bytes();
-        [3, self.bridge.value(), a, b, c, d, e, f, g, h, i, j]
+        let kind = Kind::LinkState.byte();
+        [kind, self.bridge.value(), a, b, c, d, e, f, g, h, i, j]
     }
 }

@@ -5,7 +5,7 @@ use crate::tree::decode_tree;
 use crate::{Ack, Hello, LinkState};
 use frames::Header;
 use trees::Tree;
-use wire::{Fault, kind_of};
+use wire::{Fault, Kind};
 
 // What comes by a trunk port, by its kind. Of a frame it has the header, and `inner_frame` lends on the rest.
 #[derive(Drop)]
@@ -22,13 +22,13 @@ impl Message {
     pub fn decode(bytes: &[u8]) -> Result<Message, Fault>
         ensures { DecodesMessage bytes.now result }
     {
-        match kind_of(bytes) {
-            1 => Ok(Message::Frame(Header::decode(bytes)?)),
-            2 => Ok(Message::Hello(Hello::decode(bytes)?)),
-            3 => Ok(Message::LinkState(LinkState::decode(bytes)?)),
-            4 => Ok(Message::Tree(decode_tree(bytes)?)),
-            5 => Ok(Message::Ack(Ack::decode(bytes)?)),
-            _ => Err(Fault::Malformed),
+        match Kind::of(bytes)? {
+            Kind::Frame => Header::decode(bytes).map(Message::Frame),
+            Kind::Hello => Hello::decode(bytes).map(Message::Hello),
+            Kind::LinkState => LinkState::decode(bytes).map(Message::LinkState),
+            Kind::Tree => decode_tree(bytes).map(Message::Tree),
+            Kind::Ack => Ack::decode(bytes).map(Message::Ack),
+            Kind::Settings => Err(Fault::Malformed),
         }
     }
 }

@@ -1,2 +1,3 @@
 pub mod Appended
+pub mod Arrays
 pub mod Rows

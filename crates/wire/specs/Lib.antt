@@ -1,3 +1,5 @@
 pub mod Bytes
 pub mod Faults
+pub mod Kinds
+pub mod Readers
 pub mod TreeIds

@@ -10,6 +10,7 @@ pub struct Count {
 
 impl Count {
     // The count with this value: None where it has more than its six bytes.
+    // Stays: `new` and `value` are public; the error of TryFrom would say no more than None.
     pub fn new(value: u64) -> Option<Count>
         ensures { MatchOption result (2 ^ 48 ≤ value) (λ n. (value < 2 ^ 48) × (n.value ≡ value)) }
     {
@@ -21,6 +22,7 @@ impl Count {
     }
 
     // Its value.
+    // Stays: with `From<Count> for u64` each caller would have to name u64.
     pub fn value(self) -> u64
         ensures { (result ≡ self.value) × (result < 2 ^ 48) }
     {

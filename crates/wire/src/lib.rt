@@ -3,12 +3,14 @@
 
 mod count;
 mod fault;
+mod kind;
 mod reader;
 mod sum;
 mod tree_id;
 
 pub use count::Count;
 pub use fault::Fault;
+pub use kind::Kind;
 pub use reader::Reader;
 pub use sum::{append, append_summed, is_summed, is_whole, kind_of};
 pub use tree_id::tree_id_bytes;

@@ -1,6 +1,7 @@
 // Reading bytes one after the other.
-ghost use Rattle.std.specs.Prelude.{◌≡◌, ℕ, ◌+◌, ◌^◌, ◌<◌, ◌≤◌, length, take, drop, MatchOption, MatchResult, slice_index};
-ghost use Rattle.wire.specs.Bytes.{Spent, four, six, three, two};
+ghost use Rattle.std.specs.Prelude.{◌≡◌, ℕ, ◌+◌, ◌^◌, ◌<◌, length, take, drop, slice_index};
+ghost use Rattle.wire.specs.Bytes.{four, six, three, two};
+ghost use Rattle.wire.specs.Readers.{Reads, ReadsNamed, spent};
 ghost use Rattle.wire.specs.TreeIds.{TreeIdSays};
 
 use crate::{Count, Fault};
@@ -8,6 +9,7 @@ use sets::BridgeId;
 use trees::TreeId;
 
 // A place in lent bytes, from which the next are read.
+// Stays: frames are read at places, and clauses name `pos`; of the rest of the slice alone neither could be said.
 #[derive(Drop)]
 pub struct Reader<'a> {
     bytes: &'a [u8],
@@ -22,148 +24,102 @@ impl<'a> Reader<'a> {
         Reader { bytes, pos }
     }
 
-    // The next byte.
-    pub fn byte(&mut self) -> Option<u8>
-        ensures same { self.new.bytes.now ≡ self.old.bytes.now }
-        ensures cases { MatchOption result ((length self.old.bytes.now ≤ self.old.pos) × (self.new.pos ≡ self.old.pos)) (λ b. (self.old.pos < length self.old.bytes.now) × (b ≡ slice_index self.old.bytes.now self.old.pos) × (self.new.pos ≡ self.old.pos + 1)) }
+    // The next bytes, lent on.
+    pub fn part(&mut self, count: usize) -> Result<&'a [u8], Fault>
+        ensures { Reads count self.old self.new self.old result (λ a. (length a.now ≡ count) × (a.now ≡ take count (drop self.old.pos self.old.bytes.now))) }
     {
-        if self.pos >= self.bytes.len() {
-            return None;
+        let (_, rest) = self
+            .bytes
+            .split_at_checked(self.pos)
+            .ok_or(Fault::Malformed)?;
+        let (part, _) = rest.split_at_checked(count).ok_or(Fault::Malformed)?;
+        self.pos += count;
+        Ok(part)
+    }
+
+    // The next N bytes as they stand.
+    pub fn array<const N: usize>(&mut self) -> Result<[u8; N], Fault>
+        ensures { Reads N self.old self.new self.old result (λ a. a ≡ take N (drop self.old.pos self.old.bytes.now)) }
+    {
+        let mut array = [0; N];
+        array.copy_from_slice(self.part(N)?);
+        Ok(array)
+    }
+
+    // The N bytes of a number: where there are fewer, none are left.
+    fn digits<const N: usize>(&mut self) -> Result<[u8; N], Fault>
+        ensures { Reads N self.old self.new (spent self.old) result (λ a. a ≡ take N (drop self.old.pos self.old.bytes.now)) }
+    {
+        let digits = self.array();
+        if digits.is_err() {
+            self.pos = self.pos.max(self.bytes.len());
         }
-        let b = self.bytes[self.pos];
+        digits
+    }
+
+    // The next byte.
+    pub fn byte(&mut self) -> Result<u8, Fault>
+        ensures { Reads 1 self.old self.new self.old result (λ b. b ≡ slice_index self.old.bytes.now self.old.pos) }
+    {
+        let byte = *self.bytes.get(self.pos).ok_or(Fault::Malformed)?;
         self.pos += 1;
-        Some(b)
+        Ok(byte)
     }
 
     // The number in the next two bytes.
-    pub fn two(&mut self) -> Option<u16>
-        ensures same { self.new.bytes.now ≡ self.old.bytes.now }
-        ensures cases { MatchOption result ((length self.old.bytes.now < self.old.pos + 2) × Spent (length self.old.bytes.now) self.old.pos self.new.pos) (λ n. (self.old.pos + 2 ≤ length self.old.bytes.now) × (n ≡ two self.old.bytes.now self.old.pos) × (self.new.pos ≡ self.old.pos + 2)) }
+    pub fn two(&mut self) -> Result<u16, Fault>
+        ensures { Reads 2 self.old self.new (spent self.old) result (λ n. n ≡ two self.old.bytes.now self.old.pos) }
     {
-        let a = self.byte()?;
-        let b = self.byte()?;
-        Some(u16::from_be_bytes([a, b]))
+        Ok(u16::from_be_bytes(self.digits()?))
+    }
+
+    // The number in the next three bytes.
+    pub fn three(&mut self) -> Result<u32, Fault>
+        ensures { Reads 3 self.old self.new (spent self.old) result (λ n. (n ≡ three self.old.bytes.now self.old.pos) × (n < 2 ^ 24)) }
+    {
+        let [a, b, c] = self.digits::<3>()?;
+        Ok(u32::from_be_bytes([0, a, b, c]))
     }
 
     // The number in the next four bytes.
-    pub fn four(&mut self) -> Option<u32>
-        ensures same { self.new.bytes.now ≡ self.old.bytes.now }
-        ensures cases { MatchOption result ((length self.old.bytes.now < self.old.pos + 4) × Spent (length self.old.bytes.now) self.old.pos self.new.pos) (λ n. (self.old.pos + 4 ≤ length self.old.bytes.now) × (n ≡ four self.old.bytes.now self.old.pos) × (self.new.pos ≡ self.old.pos + 4)) }
+    pub fn four(&mut self) -> Result<u32, Fault>
+        ensures { Reads 4 self.old self.new (spent self.old) result (λ n. n ≡ four self.old.bytes.now self.old.pos) }
     {
-        let a = self.byte()?;
-        let b = self.byte()?;
-        let c = self.byte()?;
-        let d = self.byte()?;
-        Some(u32::from_be_bytes([a, b, c, d]))
+        Ok(u32::from_be_bytes(self.digits()?))
     }
 
     // The number in the next six bytes.
-    pub fn six(&mut self) -> Option<u64>
-        ensures same { self.new.bytes.now ≡ self.old.bytes.now }
-        ensures cases { MatchOption result ((length self.old.bytes.now < self.old.pos + 6) × Spent (length self.old.bytes.now) self.old.pos self.new.pos) (λ n. (self.old.pos + 6 ≤ length self.old.bytes.now) × (n ≡ six self.old.bytes.now self.old.pos) × (n < 2 ^ 48) × (self.new.pos ≡ self.old.pos + 6)) }
+    pub fn six(&mut self) -> Result<u64, Fault>
+        ensures { Reads 6 self.old self.new (spent self.old) result (λ n. (n ≡ six self.old.bytes.now self.old.pos) × (n < 2 ^ 48)) }
     {
-        let a = self.byte()?;
-        let b = self.byte()?;
-        let c = self.byte()?;
-        let d = self.byte()?;
-        let e = self.byte()?;
-        let f = self.byte()?;
-        Some(u64::from_be_bytes([0, 0, a, b, c, d, e, f]))
+        let [a, b, c, d, e, f] = self.digits::<6>()?;
+        Ok(u64::from_be_bytes([0, 0, a, b, c, d, e, f]))
     }
 
     // The count of a link state in the next six bytes.
-    pub fn count(&mut self) -> Option<Count>
-        ensures same { self.new.bytes.now ≡ self.old.bytes.now }
-        ensures cases { MatchOption result ((length self.old.bytes.now < self.old.pos + 6) × Spent (length self.old.bytes.now) self.old.pos self.new.pos) (λ n. (self.old.pos + 6 ≤ length self.old.bytes.now) × (n.value ≡ six self.old.bytes.now self.old.pos) × (self.new.pos ≡ self.old.pos + 6)) }
+    pub fn count(&mut self) -> Result<Count, Fault>
+        ensures { Reads 6 self.old self.new (spent self.old) result (λ n. n.value ≡ six self.old.bytes.now self.old.pos) }
     {
         let n = self.six()?;
-        Count::new(n)
-    }
-
-    // The next address.
-    pub fn address(&mut self) -> Option<[u8; 6]>
-        ensures same { self.new.bytes.now ≡ self.old.bytes.now }
-        ensures cases { MatchOption result ((length self.old.bytes.now < self.old.pos + 6) × (self.new.pos ≡ self.old.pos)) (λ a. (self.old.pos + 6 ≤ length self.old.bytes.now) × (a ≡ take 6 (drop self.old.pos self.old.bytes.now)) × (self.new.pos ≡ self.old.pos + 6)) }
-    {
-        let part = self.part(6)?;
-        let mut array = [0; 6];
-        array.copy_from_slice(part);
-        Some(array)
-    }
-
-    // The next sixteen bytes as they stand.
-    pub fn sixteen(&mut self) -> Option<[u8; 16]>
-        ensures same { self.new.bytes.now ≡ self.old.bytes.now }
-        ensures cases { MatchOption result ((length self.old.bytes.now < self.old.pos + 16) × (self.new.pos ≡ self.old.pos)) (λ a. (self.old.pos + 16 ≤ length self.old.bytes.now) × (a ≡ take 16 (drop self.old.pos self.old.bytes.now)) × (self.new.pos ≡ self.old.pos + 16)) }
-    {
-        let part = self.part(16)?;
-        let mut array = [0; 16];
-        array.copy_from_slice(part);
-        Some(array)
-    }
-
-    // The next bytes, lent on.
-    pub fn part(&mut self, count: usize) -> Option<&'a [u8]>
-        ensures same { self.new.bytes.now ≡ self.old.bytes.now }
-        ensures cases { MatchOption result ((length self.old.bytes.now < self.old.pos + count) × (self.new.pos ≡ self.old.pos)) (λ a. (self.old.pos + count ≤ length self.old.bytes.now) × (length a.now ≡ count) × (a.now ≡ take count (drop self.old.pos self.old.bytes.now)) × (self.new.pos ≡ self.old.pos + count)) }
-    {
-        if self.pos > self.bytes.len() {
-            return None;
-        }
-        let (_, rest) = self.bytes.split_at(self.pos);
-        if rest.len() < count {
-            return None;
-        }
-        let (part, _) = rest.split_at(count);
-        self.pos += count;
-        Some(part)
+        Count::new(n).ok_or(Fault::Malformed)
     }
 
     // The number of a bridge in the next byte.
     pub fn bridge(&mut self) -> Result<BridgeId, Fault>
-        ensures same { self.new.bytes.now ≡ self.old.bytes.now }
-        ensures cases { MatchResult result (λ b. (self.old.pos + 1 ≤ length self.old.bytes.now) × (slice_index self.old.bytes.now self.old.pos < 128) × (b.value ≡ slice_index self.old.bytes.now self.old.pos) × (self.new.pos ≡ self.old.pos + 1)) (λ e. (self.old.pos + 1 ≤ length self.old.bytes.now → (128 ≤ slice_index self.old.bytes.now self.old.pos) × (e ≡ Fault.NotThere) × (self.new.pos ≡ self.old.pos + 1)) × (length self.old.bytes.now < self.old.pos + 1 → (e ≡ Fault.Malformed) × (self.new.pos ≡ self.old.pos))) }
+        ensures { ReadsNamed 1 (slice_index self.old.bytes.now self.old.pos) self.old self.new self.old result (λ b. b.value ≡ slice_index self.old.bytes.now self.old.pos) }
     {
-        let Some(value) = self.byte() else {
-            return Err(Fault::Malformed);
-        };
-        let Some(bridge) = BridgeId::new(value) else {
-            return Err(Fault::NotThere);
-        };
-        Ok(bridge)
-    }
-
-    // The number in the next three bytes.
-    pub fn three(&mut self) -> Option<u32>
-        ensures same { self.new.bytes.now ≡ self.old.bytes.now }
-        ensures cases { MatchOption result ((length self.old.bytes.now < self.old.pos + 3) × Spent (length self.old.bytes.now) self.old.pos self.new.pos) (λ n. (self.old.pos + 3 ≤ length self.old.bytes.now) × (n ≡ three self.old.bytes.now self.old.pos) × (n < 2 ^ 24) × (self.new.pos ≡ self.old.pos + 3)) }
-    {
-        let a = self.byte()?;
-        let b = self.byte()?;
-        let c = self.byte()?;
-        Some(u32::from_be_bytes([0, a, b, c]))
+        let value = self.byte()?;
+        BridgeId::new(value).ok_or(Fault::NotThere)
     }
 
     // The number of a tree in the next eight bytes.
     pub fn tree_id(&mut self) -> Result<TreeId, Fault>
-        ensures same { self.new.bytes.now ≡ self.old.bytes.now }
-        ensures cases { MatchResult result (λ t. (self.old.pos + 8 ≤ length self.old.bytes.now) × (slice_index self.old.bytes.now (self.old.pos + 4) < 128) × TreeIdSays self.old.bytes.now self.old.pos t × (self.new.pos ≡ self.old.pos + 8)) (λ e. (self.old.pos + 8 ≤ length self.old.bytes.now → (128 ≤ slice_index self.old.bytes.now (self.old.pos + 4)) × (e ≡ Fault.NotThere) × (self.new.pos ≡ self.old.pos + 8)) × (length self.old.bytes.now < self.old.pos + 8 → (e ≡ Fault.Malformed) × Spent (length self.old.bytes.now) self.old.pos self.new.pos)) }
+        ensures { ReadsNamed 8 (slice_index self.old.bytes.now (self.old.pos + 4)) self.old self.new (spent self.old) result (TreeIdSays self.old.bytes.now self.old.pos) }
     {
-        let Some(seq) = self.four() else {
-            return Err(Fault::Malformed);
-        };
-        let Some(announcer) = self.byte() else {
-            return Err(Fault::Malformed);
-        };
-        let Some(nonce) = self.three() else {
-            return Err(Fault::Malformed);
-        };
-        let Some(announcer) = BridgeId::new(announcer) else {
-            return Err(Fault::NotThere);
-        };
-        let Some(id) = TreeId::new(seq, announcer, nonce) else {
-            return Err(Fault::NotThere);
-        };
-        Ok(id)
+        let seq = self.four()?;
+        let announcer = self.byte()?;
+        let nonce = self.three()?;
+        let announcer = BridgeId::new(announcer).ok_or(Fault::NotThere)?;
+        TreeId::new(seq, announcer, nonce).ok_or(Fault::NotThere)
     }
 }

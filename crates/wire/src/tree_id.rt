@@ -5,6 +5,7 @@ ghost use Rattle.std.specs.Prelude.{◌≡◌};
 use trees::TreeId;
 
 // The eight bytes of a tree's number.
+// Stays: neither type is of this crate, so no From; put together by letters, since no type can name an array whose length is a sum.
 pub fn tree_id_bytes(id: TreeId) -> [u8; 8]
     ensures { result ≡ tree_id_bytes id }
 {

@@ -5,11 +5,11 @@ use Rattle.sets.proofs.Members.{same_id}
 use Rattle.wire.specs.declared.fault.Fault.TheVariants.{Malformed, BadSettings}
 use native.Mathlib.Bridge.{le_prop}
 use native.Mathlib.Decide.{dec_lt}
-use Rattle.std.proofs.lemmas.List.{get_or-drop, take-append-drop}
+use Rattle.std.proofs.lemmas.List.{get_or-drop, take-append-drop, ext_get_or}
 use Rattle.frames.specs.declared.settings.Settings.{Settings}
 use Rattle.wire.specs.Bytes.{four, in_two, in_four}
 use Rattle.frames.specs.SettingsBytes.{are_settings, vlan_in, vlans_can_be, can_be, settings_fault, SettingsSay, settings_head, in_twos, settings_bytes}
-use Rattle.wire.proofs.Rows.{same-list, length_pairs, get_or-pairs, pairs_are}
+use Rattle.wire.proofs.Rows.{length_pairs, get_or-pairs, pairs_are}
 use Rattle.wire_laws.specs.RoundTrips.{RoundTrip, SettingsFit}
 use Rattle.wire_laws.proofs.Numbers.{two_back, four-back, in-two-at, in-four-at, take-front}
 use Rattle.wire_laws.proofs.Whole.{and_both, and_first, and_second, whole_of}
@@ -98,7 +98,7 @@ same_settings m n p q r s = along n.ports r n.room ∙ (λ i. record { bridge = 
 one_message : (b : List ℕ) (m n : Settings) → length m.vlans ≡ 16 → length n.vlans ≡ 16 → SettingsSay b m → SettingsSay b n → m ≡ n
 one_message b m n lm ln p q =
     same_settings m n (same_id m.bridge n.bridge (p.bridge ∙ sym q.bridge)) (p.incarnation ∙ sym q.incarnation) (p.ports ∙ sym q.ports)
-    (same-list m.vlans n.vlans (lm ∙ sym ln) each)
+    (ext_get_or 0 m.vlans n.vlans (lm ∙ sym ln) each)
   where
     each : (k : ℕ) → k < length m.vlans → get_or m.vlans k 0 ≡ get_or n.vlans k 0
     each k h =

@@ -3,7 +3,7 @@ use Rattle.std.proofs.Common.{◌≡◌, ℕ, ◌+◌, ◌-◌, ◌*◌, ◌^◌
 use mathlib.Core.Bool.{Bool-set}
 use Rattle.crc.specs.Burst.{Bytes}
 use native.Mathlib.Bridge.{le_prop}
-use Rattle.std.proofs.lemmas.List.{get_or_append_left, get_or-drop, get_or-take, length-take-le}
+use Rattle.std.proofs.lemmas.List.{get_or_append_left, get_or-drop, get_or-take, length-take-le, ext_get_or}
 use Rattle.crc.specs.Crc.{crc_of}
 use Rattle.trees.specs.Tree.{looks}
 use Rattle.trees.specs.Ids.{id_number}
@@ -14,7 +14,7 @@ use Rattle.wire.specs.Bytes.{in_four, whole, with_sum}
 use Rattle.wire.specs.TreeIds.{TreeIdSays}
 use Rattle.messages.specs.TreeBytes.{parents_in, depths_in, tree_fault, TreeSays, paired, tree_head, tree_bytes}
 use Rattle.messages.proofs.Columns.{length-row, get_or-row}
-use Rattle.wire.proofs.Rows.{same-list, length_pairs, get_or-pairs, pairs_are}
+use Rattle.wire.proofs.Rows.{length_pairs, get_or-pairs, pairs_are}
 use Rattle.messages.proofs.Grown.{tree_read}
 use Rattle.wire_laws.specs.RoundTrips.{RoundTrip, TreeFits}
 use Rattle.wire_laws.proofs.Numbers.{three_back, four-back, take-front, take_split}
@@ -33,7 +33,7 @@ cell t j h =
     get_or-append-add (tree_head t.id) (ps ++ s) j 0 ∙ get_or_append_left ps s 0 j (omega arith)
 
 says_parent : (t : Tree) → length t.parent ≡ 128 → t.parent ≡ parents_in (tree_bytes t)
-says_parent t l = same-list t.parent (parents_in b) (l ∙ sym (length-row b 9 128)) each where
+says_parent t l = ext_get_or 0 t.parent (parents_in b) (l ∙ sym (length-row b 9 128)) each where
   b : List ℕ
   b = tree_bytes t
 
@@ -45,7 +45,7 @@ says_parent t l = same-list t.parent (parents_in b) (l ∙ sym (length-row b 9 1
       ∙ ap (λ j. get_or t.parent j 0) z)
 
 says_depth : (t : Tree) → length t.depth ≡ 128 → t.depth ≡ depths_in (tree_bytes t)
-says_depth t l = same-list t.depth (depths_in b) (l ∙ sym (length-row b 10 128)) each where
+says_depth t l = ext_get_or 0 t.depth (depths_in b) (l ∙ sym (length-row b 10 128)) each where
   b : List ℕ
   b = tree_bytes t
 

@@ -3,6 +3,7 @@ use frames::{AtAccess, Settings, inner_frame, read_at_access, same_address};
 use messages::{Hello, LinkState, Message, decode_tree, encode_tree};
 use std::process::Abort;
 use std::test::Fail;
+use wire::Fault;
 
 // hello, and one byte more
 const HELLO: [u8; 15] = [2, 5, 1, 2, 3, 4, 10, 11, 12, 13, 52, 37, 4, 233, 0];
@@ -44,26 +45,19 @@ const TREE: [u8; 270] = [
 ];
 
 // The number of the fault, 0 where there is none.
-fn answer(bytes: &[u8]) -> u8 {
-    match Message::decode(bytes) {
-        Ok(_) => 0,
-        Err(fault) => fault.number(),
-    }
+fn number_of<T: Drop>(read: Result<T, Fault>) -> u8 {
+    read.err().map_or(0, Fault::number)
 }
 
-fn settings_answer(bytes: &[u8]) -> u8 {
-    match Settings::decode(bytes) {
-        Ok(_) => 0,
-        Err(fault) => fault.number(),
-    }
+fn answer(bytes: &[u8]) -> u8 {
+    number_of(Message::decode(bytes))
 }
 
 // The number of the fault at an access port, 100 for a hello.
 fn access_answer(bytes: &[u8]) -> u8 {
     match read_at_access(bytes) {
         Ok(AtAccess::Hello) => 100,
-        Ok(AtAccess::Frame(_)) => 0,
-        Err(fault) => fault.number(),
+        frame => number_of(frame),
     }
 }
 
@@ -243,7 +237,7 @@ fn faults_of_settings(rt: HostRuntime) {
         (&[6, 5, 0, 0, 0, 1, 2, 0, 1, 15, 255], 10),
     ];
     for (bytes, number) in rows {
-        assert_eq!(rt; settings_answer(bytes), number);
+        assert_eq!(rt; number_of(Settings::decode(bytes)), number);
     }
 }
 

@@ -1,33 +1,35 @@
 // Settings in bytes.
-ghost use Rattle.std.specs.Prelude.{◌≡◌, ◌+◌, ◌*◌, ◌<◌, ◌≤◌, true, false, ◌++◌, length, is_ok, if◌then◌else◌, vec_len, MatchOption};
-ghost use Rattle.frames.specs.SettingsBytes.{DecodesSettings, settings_bytes, settings_head, vlans_can_be, VlansSay, in_twos};
+ghost use Rattle.std.specs.Prelude.{◌≡◌, ◌↔◌, ℕ, ◌+◌, ◌*◌, ◌<◌, ◌≤◌, true, false, [], ◌++◌, length, is_ok, if◌then◌else◌, EachIndex, IsTrue, MatchOption, slice_index, slice_index_or};
+ghost use Rattle.frames.specs.SettingsBytes.{DecodesSettings, settings_bytes, settings_head, vlans_can_be, VlansSay};
+ghost use Rattle.wire.specs.Bytes.{in_two, two};
 
 use super::Settings;
 use std::alloc::AllocError;
-use wire::{Fault, Reader, append, kind_of};
+use std::array;
+use wire::{Fault, Kind, Reader, append};
 
 impl Settings {
     // What the bytes say, if they are settings that can be.
     pub fn decode(bytes: &[u8]) -> Result<Settings, Fault>
         ensures { DecodesSettings bytes.now result }
     {
-        if bytes.len() < 7 || kind_of(bytes) != 6 || bytes.len() != 7 + 2 * bytes[6] as usize {
+        if bytes.len() < 7
+            || Kind::of(bytes)? != Kind::Settings
+            || bytes.len() != 7 + 2 * usize::from(bytes[6])
+        {
             return Err(Fault::Malformed);
         }
         let ports = bytes[6];
         let mut reader = Reader::at(bytes, 1);
+        // Stays: by a rule of the project one answer of a reader is taken apart by `let .. else`; `map_err(|_| Fault::BadSettings)?` would say the same.
         let Ok(bridge) = reader.bridge() else {
             return Err(Fault::BadSettings);
         };
-        let Some(incarnation) = reader.four() else {
-            return Err(Fault::BadSettings);
-        };
+        let incarnation = reader.four()?;
         if incarnation == 0 || ports > 16 {
             return Err(Fault::BadSettings);
         }
-        let Some(vlans) = read_vlans(bytes, ports as usize) else {
-            return Err(Fault::BadSettings);
-        };
+        let vlans = read_vlans(bytes, usize::from(ports)).ok_or(Fault::BadSettings)?;
         Ok(Settings {
             bridge,
             incarnation,
@@ -40,17 +42,22 @@ impl Settings {
     pub fn encode(self, out: &mut Vec<u8>) -> Result<(), AllocError>
         ensures { out.new.items ≡ (if is_ok result then out.old.items ++ settings_bytes self else out.old.items) }
     {
-        let cells = vlan_bytes(&self.vlans);
-        let (vlans, _) = cells.split_at(2 * self.ports as usize);
-        append(out, &self.head(), vlans)
+        let vlans = vlan_bytes(&self.vlans);
+        append(
+            out,
+            &self.head(),
+            vlans[..usize::from(self.ports)].as_flattened(),
+        )
     }
 
     // All that stands before the vlans.
+    // Stays: put together by letters, since no type can name an array whose length is a sum.
     fn head(self) -> [u8; 7]
         ensures { result ≡ settings_head self }
     {
         let [a, b, c, d] = self.incarnation.to_be_bytes();
-        [6, self.bridge.value(), a, b, c, d, self.ports]
+        let kind = Kind::Settings.byte();
+        [kind, self.bridge.value(), a, b, c, d, self.ports]
     }
 }
 
@@ -59,27 +66,33 @@ fn read_vlans(bytes: &[u8], ports: usize) -> Option<[u16; 16]>
     requires { (ports ≤ 16) × (7 + 2 * ports ≤ length bytes.now) }
     ensures { MatchOption result (vlans_can_be bytes.now ports ≡ false) (λ v. (vlans_can_be bytes.now ports ≡ true) × VlansSay bytes.now ports v) }
 {
-    let mut vlans = [0; 16];
-    for port in 0..ports {
-        let place = 7 + 2 * port;
-        let vlan = u16::from_be_bytes([bytes[place], bytes[place + 1]]);
-        if vlan > 4094 {
-            return None;
-        }
-        vlans[port] = vlan;
-    }
-    Some(vlans)
+    let (cells, _) = bytes[7..7 + 2 * ports].as_chunks::<2>();
+    let vlans = array::from_fn(|port| vlan_of(cells, port));
+    can_be(&vlans).then_some(vlans)
+}
+
+// The vlan in a port's cell, 0 where it has none.
+fn vlan_of(cells: &[[u8; 2]], port: usize) -> u16
+    ensures { result ≡ two (slice_index_or cells.now port []) 0 }
+{
+    cells.get(port).map_or(0, |cell| u16::from_be_bytes(*cell))
+}
+
+// Is each of them a vlan, or none?
+fn can_be(vlans: &[u16]) -> bool
+    ensures { IsTrue result ↔ EachIndex vlans.now (λ k. slice_index vlans.now k ≤ 4094) }
+{
+    vlans.iter().all(|vlan| *vlan <= 4094)
 }
 
 // The two bytes of each vlan.
-fn vlan_bytes(vlans: &[u16; 16]) -> [u8; 32]
-    ensures { result ≡ in_twos vlans.now 16 }
+fn vlan_bytes(vlans: &[u16; 16]) -> [[u8; 2]; 16]
+    ensures { (k : ℕ) → k < 16 → slice_index_or result k [] ≡ in_two (slice_index vlans.now k) }
 {
-    let mut cells = [0; 32];
-    for port in 0..16usize {
-        let [high, low] = vlans[port].to_be_bytes();
-        cells[2 * port] = high;
-        cells[2 * port + 1] = low;
+    // Stays: by `array::from_fn` the clause stays open: no equation is found for the array that its closure gives.
+    let mut cells = [[0; 2]; 16];
+    for (port, cell) in cells.iter_mut().enumerate() {
+        *cell = vlans[port].to_be_bytes();
     }
     cells
 }

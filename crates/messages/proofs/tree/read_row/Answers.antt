@@ -1,7 +1,7 @@
-use Rattle.std.proofs.Common.{sym, ◌∙◌, arith, get_or-set_other, get_or-set_same, rules}
-use Rattle.std.proofs.lemmas.Bool.{cases_eq}
+use Rattle.std.proofs.Common.{◌≡◌, ◌+◌, ◌*◌, length, get_or, sym, ◌∙◌, arith, rules}
 use Rattle.messages.proofs.Columns.{length-row, get_or-row}
-use Rattle.wire.proofs.Rows.{same-list}
+use Rattle.wire.proofs.Arrays.{made_each}
+use Rattle.std.proofs.lemmas.List.{ext_get_or}
 use Rattle.messages.specs.TreeBytes.{row}
 use Rattle.messages.proofs.tree.read_row.Goals as goal
 
@@ -9,9 +9,6 @@ pub returns : goal.returns
 returns c =
     let b = c.args.bytes.now in
     let i = c.args.place in
-    let inv = c.loop-k.invariant in
-    same-list c.loop-k.cells (row b i 128) (inv.0 ∙ sym (length-row b i 128))
-    (λ k h. inv.1 k (omega (arith, inv.0)) ∙ sym (get_or-row b i 128 k (omega (arith, inv.0))))
-
-pub loop-k-preserved : goal.loop-k-preserved
-loop-k-preserved c = (search rules, λ j h. grind (arith, get_or-set_same, get_or-set_other, cases_eq j c.loop-k.k, c.loop-k.invariant.1 j))
+    let l : length c.from_fn.result ≡ 128 = c.from_fn.ensures.items.long in
+    let each = made_each _ (λ k y. y ≡ get_or b (i + 2 * k) 0) _ c.from_fn.result 0 (λ j y q k. (search rules, search rules)) c.from_fn.ensures.items in
+    ext_get_or 0 c.from_fn.result (row b i 128) (l ∙ sym (length-row b i 128)) (λ k h. each k (omega (arith, l)) ∙ sym (get_or-row b i 128 k (omega (arith, l))))

@@ -1,0 +1,8 @@
+use Rattle.std.proofs.Common.{rules}
+use Rattle.wire.specs.declared.kind.Kind.TheVariants.{Frame}
+use Rattle.frames.proofs.forwarded.Header.decode.Goals as goal
+
+pub returns-in_err-of : goal.returns-in_err-of
+returns-in_err-of c =
+    let no = c.in_err-of.ensures.1 Frame in
+    search rules

@@ -1,0 +1,8 @@
+use Rattle.std.proofs.Common.{rules}
+use Rattle.wire.specs.declared.kind.Kind.TheVariants.{Tree}
+use Rattle.messages.proofs.ack.of_tree.Goals as goal
+
+pub returns-in_err-try_from : goal.returns-in_err-try_from
+returns-in_err-try_from c =
+    let no = c.in_err-try_from.ensures.1 Tree in
+    search rules
