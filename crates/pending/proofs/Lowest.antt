@@ -1,11 +1,15 @@
 -- What leaves next: the lowest bridge for which anything waits, and the first kind of which anything waits.
-use Rattle.std.proofs.Common.{◌≡◌, ℕ, zero, suc, ◌+◌, ◌<◌, ◌≤◌, true, false, cond, Some, None, Option, refl, ap, ◌∙◌, arith}
+use Rattle.std.proofs.Common.{◌≡◌, ℕ, zero, suc, ◌+◌, ◌<◌, ◌≤◌, true, false, cond, Some, None, Option, sym, refl, ap, ◌∙◌, arith}
 use native.Mathlib.Decide.{ℕ_discrete, dec_lt}
 use Rattle.std.proofs.lemmas.Bool.Decides.{nat_tests}
 use Rattle.std.specs.Option.{option_map}
-use Rattle.sets.specs.Sets.{has}
+use Rattle.std.specs.Option.{MatchOption, IsSomeAnd}
+use Rattle.sets.specs.Sets.{has, MembersAre}
+use Rattle.sets.specs.declared.bridge_id.BridgeId.{BridgeId}
+use Rattle.pending.specs.declared.control.Control.{Control}
+use Rattle.pending.specs.declared.control.Control.TheVariants as control
 use Rattle.pending.specs.Tables.{member, First}
-use Rattle.pending.specs.Waits.{Waits, Message, lowest, link_acks_for, tree_acks_for, link_states_for, trees_for, next_of}
+use Rattle.pending.specs.Waits.{Waits, Message, message_of, Tree, lowest, link_acks_for, tree_acks_for, link_states_for, trees_for, next_of}
 
 from : (f : ℕ → Option Message) (k n b : ℕ) (m : Message) → k ≤ b → b < k + n → f b ≡ Some m → ((j : ℕ) → j < b → f j ≡ None) → lowest f k n ≡ Some m
 unfolding lowest
@@ -29,6 +33,13 @@ set_first mk bits b lt here below = from (λ k. cond (member bits k) (Some (mk k
 
 pub set_none : (mk : ℕ → Message) (bits : ℕ) → ((k : ℕ) → k < 128 → has bits k ≡ false) → lowest (λ k. cond (member bits k) (Some (mk k)) None) 0 128 ≡ None
 set_none mk bits is = none_from (λ k. cond (member bits k) (Some (mk k)) None) 0 128 (λ j. elim (dec_lt j 128) [ yes h ↦ grind (arith, nat_tests, is j h) | no h ↦ grind (arith, nat_tests, h) ])
+
+-- the tree that leaves, if one does
+pub tree_first : (bits : ℕ) (s : Option BridgeId) (m : Option Control) → MatchOption s (MembersAre bits (λ _. false)) (λ b. (has bits b.value ≡ true) × ((k : ℕ) → k < b.value → has bits k ≡ false))
+    → MatchOption s (m ≡ None) (λ b. IsSomeAnd m (λ c. c ≡ control.Tree b)) → lowest (λ k. cond (member bits k) (Some (Tree k)) None) 0 128 ≡ option_map message_of m
+tree_first bits None m none is = set_none Tree bits none ∙ ap (option_map message_of) (sym is)
+tree_first bits (Some b) None first is = absurd is
+tree_first bits (Some b) (Some c) first is = set_first Tree bits b.value b.ok first.0 first.1 ∙ ap (λ d. Some (message_of d)) (sym is)
 
 -- a kind of message leaves only where those before it have nothing
 pub second : (w : Waits) (m : Message) → w.hello ≡ false → lowest (link_acks_for w) 0 128 ≡ Some m → Some m ≡ next_of w

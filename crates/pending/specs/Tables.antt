@@ -1,14 +1,10 @@
 -- Tables by bridge: what, if anything, waits for each number.
-use Rattle.std.specs.Prelude.{◌≡◌, ℕ, ◌<◌, Bool, cond, ◌&&◌, List, Some, None, Option, ◌==◌, nat_lt, slice_index_or}
+use Rattle.std.specs.Prelude.{◌≡◌, ℕ, ◌<◌, Bool, cond, ◌&&◌, Some, None, Option, ◌==◌, nat_lt}
 use Rattle.sets.specs.Sets.{has}
 
 -- which bridges are in a set of bits
 abbrev pub member : ℕ → ℕ → Bool
 member bits k = nat_lt k 128 && has bits k
-
--- a row of values, of which those count whose bridge is in the set
-abbrev pub table_of : {X : Type 0} → X → ℕ → List X → ℕ → Option X
-table_of d bits xs k = cond (member bits k) (Some (slice_index_or xs k d)) None
 
 -- of what waits and what comes the newer
 abbrev pub newest : {X : Type 0} → (X → X → Bool) → X → Option X → X

@@ -1,12 +1,12 @@
 -- What waits to be sent by a port, what leaves next, and what then waits.
 use Rattle.std.specs.Prelude.{ℕ, zero, suc, ◌+◌, Bool, true, false, cond, not, ◌&&◌, ◌||◌, Some, None, Option, ◌==◌}
 use Rattle.std.specs.Option.{option_map}
-use Rattle.pending.specs.declared.link_acks.Version.{Version}
+use Rattle.pending.specs.declared.version.Version.{Version}
 use Rattle.pending.specs.declared.messages.Pending.{Pending}
 use Rattle.pending.specs.declared.control.Control.{Control}
 use Rattle.pending.specs.declared.control.Control.TheVariants as control
 use Rattle.pending.specs.Tables.{member, noted, removed}
-use Rattle.pending.specs.Acks.{later, higher, link_acks_of, tree_acks_of}
+use Rattle.pending.specs.Acks.{later, higher, acks_of}
 
 -- by bridge: the acknowledgement that waits, if one does, and whether a link state and a tree wait
 pub record Waits : Type 0 where
@@ -17,7 +17,7 @@ pub record Waits : Type 0 where
   pub tree : ℕ → Bool
 
 abbrev pub waits : Pending → Waits
-waits p = record { hello = p.hello; link_ack = link_acks_of p.link_acks; tree_ack = tree_acks_of p.tree_acks; link_state = member p.link_states.bits; tree = member p.trees.bits }
+waits p = record { hello = p.hello; link_ack = acks_of p.link_acks; tree_ack = acks_of p.tree_acks; link_state = member p.link_states.bits; tree = member p.trees.bits }
 
 abbrev pub nothing : Waits
 nothing = record { hello = false; link_ack = λ k. None; tree_ack = λ k. None; link_state = λ k. false; tree = λ k. false }
@@ -33,38 +33,38 @@ pub data Message : Type 0 where
 abbrev pub message_of : Control → Message
 message_of control.Hello = Hello
 message_of (control.AckLinkState a) = AckLinkState a.bridge.value a.version
-message_of (control.AckTree a) = AckTree a.announcer.value a.number
+message_of (control.AckTree a) = AckTree a.bridge.value a.version
 message_of (control.LinkState b) = LinkState b.value
 message_of (control.Tree a) = Tree a.value
 
 abbrev pub with_hello : Waits → Waits
-with_hello w = record { hello = true; link_ack = w.link_ack; tree_ack = w.tree_ack; link_state = w.link_state; tree = w.tree }
+with_hello w = record w { hello = true }
 
 abbrev pub with_link_ack : ℕ → Version → Waits → Waits
-with_link_ack b v w = record { hello = w.hello; link_ack = noted later b v w.link_ack; tree_ack = w.tree_ack; link_state = w.link_state; tree = w.tree }
+with_link_ack b v w = record w { link_ack = noted later b v w.link_ack }
 
 abbrev pub with_tree_ack : ℕ → ℕ → Waits → Waits
-with_tree_ack a n w = record { hello = w.hello; link_ack = w.link_ack; tree_ack = noted higher a n w.tree_ack; link_state = w.link_state; tree = w.tree }
+with_tree_ack a n w = record w { tree_ack = noted higher a n w.tree_ack }
 
 abbrev pub with_link_state : ℕ → Waits → Waits
-with_link_state b w = record { hello = w.hello; link_ack = w.link_ack; tree_ack = w.tree_ack; link_state = λ k. (k == b) || w.link_state k; tree = w.tree }
+with_link_state b w = record w { link_state = λ k. (k == b) || w.link_state k }
 
 -- the same of each bridge in a set of bits
 abbrev pub with_link_states : ℕ → Waits → Waits
-with_link_states bits w = record { hello = w.hello; link_ack = w.link_ack; tree_ack = w.tree_ack; link_state = λ k. member bits k || w.link_state k; tree = w.tree }
+with_link_states bits w = record w { link_state = λ k. member bits k || w.link_state k }
 
 abbrev pub with_tree : ℕ → Waits → Waits
-with_tree a w = record { hello = w.hello; link_ack = w.link_ack; tree_ack = w.tree_ack; link_state = w.link_state; tree = λ k. (k == a) || w.tree k }
+with_tree a w = record w { tree = λ k. (k == a) || w.tree k }
 
 abbrev pub with_trees : ℕ → Waits → Waits
-with_trees bits w = record { hello = w.hello; link_ack = w.link_ack; tree_ack = w.tree_ack; link_state = w.link_state; tree = λ k. member bits k || w.tree k }
+with_trees bits w = record w { tree = λ k. member bits k || w.tree k }
 
 abbrev pub without : Message → Waits → Waits
-without Hello w = record { hello = false; link_ack = w.link_ack; tree_ack = w.tree_ack; link_state = w.link_state; tree = w.tree }
-without (AckLinkState b v) w = record { hello = w.hello; link_ack = removed b w.link_ack; tree_ack = w.tree_ack; link_state = w.link_state; tree = w.tree }
-without (AckTree a n) w = record { hello = w.hello; link_ack = w.link_ack; tree_ack = removed a w.tree_ack; link_state = w.link_state; tree = w.tree }
-without (LinkState b) w = record { hello = w.hello; link_ack = w.link_ack; tree_ack = w.tree_ack; link_state = λ k. not (k == b) && w.link_state k; tree = w.tree }
-without (Tree a) w = record { hello = w.hello; link_ack = w.link_ack; tree_ack = w.tree_ack; link_state = w.link_state; tree = λ k. not (k == a) && w.tree k }
+without Hello w = record w { hello = false }
+without (AckLinkState b v) w = record w { link_ack = removed b w.link_ack }
+without (AckTree a n) w = record w { tree_ack = removed a w.tree_ack }
+without (LinkState b) w = record w { link_state = λ k. not (k == b) && w.link_state k }
+without (Tree a) w = record w { tree = λ k. not (k == a) && w.tree k }
 
 -- the first of two, if it is there, else the second
 abbrev pub or_else : Option Message → Option Message → Option Message

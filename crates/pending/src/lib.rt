@@ -1,17 +1,16 @@
 // The control messages that wait to be sent by one port: of each kind and bridge only the newest.
 #![tactic(auto)]
 
+mod acks;
 mod control;
-mod link_acks;
 mod messages;
 #[cfg(test)]
 mod tests;
 pub mod theorems;
-mod tree_acks;
+mod version;
 
+pub(crate) use acks::Acks;
+pub use acks::{Ack, LinkAck, TreeAck};
 pub use control::Control;
-pub(crate) use link_acks::LinkAcks;
-pub use link_acks::{LinkAck, Version};
 pub use messages::Pending;
-pub use tree_acks::TreeAck;
-pub(crate) use tree_acks::TreeAcks;
+pub use version::Version;

@@ -1,18 +1,17 @@
 // What waits to be sent by one port, and in which order it leaves.
-ghost use Rattle.std.specs.Prelude.{◌≡◌, true, false, is_some};
+ghost use Rattle.std.specs.Prelude.{◌≡◌, true, false};
 ghost use Rattle.std.specs.Option.{option_map};
-ghost use Rattle.pending.specs.Waits.{Waits, nothing, waits, message_of, next_of, without, with_hello, with_link_state, with_link_states, with_tree, with_trees, with_link_ack, with_tree_ack};
-ghost use Rattle.pending.specs.Waits.{after_next};
+ghost use Rattle.pending.specs.Waits.{nothing, waits, message_of, next_of, after_next, without, with_hello, with_link_state, with_link_states, with_tree, with_trees, with_link_ack, with_tree_ack};
 
-use crate::{Control, LinkAcks, TreeAcks, Version};
+use crate::{Acks, Control, Version};
 use sets::{BridgeId, BridgeSet};
 
 // The messages that wait at a port: a hello, acknowledgements, link states and trees, of each bridge one at most.
 #[derive(Clone, Copy)]
 pub struct Pending {
     hello: bool,
-    link_acks: LinkAcks,
-    tree_acks: TreeAcks,
+    link_acks: Acks<Version>,
+    tree_acks: Acks<u64>,
     link_states: BridgeSet,
     trees: BridgeSet,
 }
@@ -24,8 +23,8 @@ impl Pending {
     {
         Pending {
             hello: false,
-            link_acks: LinkAcks::new(),
-            tree_acks: TreeAcks::new(),
+            link_acks: Acks::new(),
+            tree_acks: Acks::new(),
             link_states: BridgeSet::empty(),
             trees: BridgeSet::empty(),
         }
@@ -46,6 +45,7 @@ impl Pending {
     }
 
     // The link states of these bridges are to be sent.
+    // Stays: two names, for one bridge and for several; a `&[BridgeId]` for both would be gone through in a loop.
     pub fn add_link_states(&mut self, bridges: BridgeSet)
         ensures { waits self.new ≡ with_link_states bridges.bits (waits self.old) }
     {
@@ -84,6 +84,8 @@ impl Pending {
     pub fn peek(&self) -> Option<Control>
         ensures { option_map message_of result ≡ next_of (waits self.now) }
     {
+        // Stays: of `.map(Control::AckLinkState).or_else(|| ..)` no fact says what a closure that reads `self` gives: `returns`
+        // stays open.
         if self.hello {
             return Some(Control::Hello);
         }
@@ -96,8 +98,7 @@ impl Pending {
         if let Some(bridge) = self.link_states.first() {
             return Some(Control::LinkState(bridge));
         }
-        let announcer = self.trees.first()?;
-        Some(Control::Tree(announcer))
+        self.trees.first().map(Control::Tree)
     }
 
     // This message no longer waits.
@@ -107,7 +108,7 @@ impl Pending {
         match message {
             Control::Hello => self.hello = false,
             Control::AckLinkState(ack) => self.link_acks.remove(ack.bridge),
-            Control::AckTree(ack) => self.tree_acks.remove(ack.announcer),
+            Control::AckTree(ack) => self.tree_acks.remove(ack.bridge),
             Control::LinkState(bridge) => self.link_states = self.link_states.without(bridge),
             Control::Tree(announcer) => self.trees = self.trees.without(announcer),
         }

@@ -1,23 +1,9 @@
-use crate::{Control, Pending, Version};
+use crate::{Ack, Control, Pending, Version};
 use sets::{BridgeId, BridgeSet};
 use std::test::Fail;
 
 fn bridge(number: u8) -> Result<BridgeId, Fail> {
-    match BridgeId::new(number) {
-        Some(b) => Ok(b),
-        None => Err(Fail::new("no bridge has this number")),
-    }
-}
-
-// Kind, bridge, and what is acknowledged.
-fn shown(message: Control) -> (u8, u8, u64) {
-    match message {
-        Control::Hello => (0, 0, 0),
-        Control::AckLinkState(ack) => (1, ack.bridge.value(), ack.version.count),
-        Control::AckTree(ack) => (2, ack.announcer.value(), ack.number),
-        Control::LinkState(bridge) => (3, bridge.value(), 0),
-        Control::Tree(announcer) => (4, announcer.value(), 0),
-    }
+    BridgeId::new(number).ok_or_else(|| Fail::new("no bridge has this number"))
 }
 
 // Whatever the order in which messages come, they leave by kind and bridge, and only the newest acknowledgement does.
@@ -39,22 +25,28 @@ fn in_order(rt: HostRuntime) -> Result<(), Fail> {
         );
     }
     pending.add_hello();
-    let leave: [(u8, u8, u64); 9] = [
-        (0, 0, 0),
-        (1, 8, 7),
-        (2, 3, 7),
-        (3, 2, 0),
-        (3, 9, 0),
-        (3, 127, 0),
-        (4, 2, 0),
-        (4, 9, 0),
-        (4, 127, 0),
+    let leave = [
+        Control::Hello,
+        Control::AckLinkState(Ack {
+            bridge: bridge(8)?,
+            version: Version {
+                count: 7,
+                incarnation: 1,
+            },
+        }),
+        Control::AckTree(Ack {
+            bridge: bridge(3)?,
+            version: 7,
+        }),
+        Control::LinkState(bridge(2)?),
+        Control::LinkState(bridge(9)?),
+        Control::LinkState(bridge(127)?),
+        Control::Tree(bridge(2)?),
+        Control::Tree(bridge(9)?),
+        Control::Tree(bridge(127)?),
     ];
-    for expected in leave {
-        let Some(message) = pending.next() else {
-            return Err(Fail::new("too few"));
-        };
-        assert!(rt; shown(message) == expected);
+    for message in leave {
+        assert!(rt; pending.next() == Some(message));
     }
     assert!(rt; pending.next().is_none());
     Ok(())
@@ -67,12 +59,10 @@ fn several_at_once(rt: HostRuntime) -> Result<(), Fail> {
     pending.add_link_state(bridge(5)?);
     pending.add_link_states(BridgeSet::only(bridge(127)?).with(bridge(0)?));
     pending.add_trees(BridgeSet::only(bridge(7)?));
-    for expected in [(3u8, 0u8, 0u64), (3, 5, 0), (3, 127, 0), (4, 7, 0)] {
-        let Some(message) = pending.next() else {
-            return Err(Fail::new("too few"));
-        };
-        assert!(rt; shown(message) == expected);
+    for number in [0u8, 5, 127] {
+        assert!(rt; pending.next() == Some(Control::LinkState(bridge(number)?)));
     }
+    assert!(rt; pending.next() == Some(Control::Tree(bridge(7)?)));
     assert!(rt; pending.next().is_none());
     Ok(())
 }

@@ -1,3 +1,4 @@
 pub mod Port
 pub mod Ports
+pub mod Refused
 pub mod Runs

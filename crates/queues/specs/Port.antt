@@ -1,7 +1,5 @@
 -- What waits at a port, what leaves next, and what then waits.
 use Rattle.std.specs.Prelude.{ℕ, ◌+◌, cond, List, [], ◌∷◌, ◌++◌, drop, Some, None, Option, nat_lt}
-use Rattle.rows.specs.Row.{waiting}
-use Rattle.rows.specs.Budget.{sent_of}
 use Rattle.pending.specs.Waits.{Waits, Message, nothing, waits, next_of, without}
 use Rattle.queues.specs.declared.port.PortQueue.{PortQueue}
 
@@ -11,7 +9,7 @@ pub record Port : Type 0 where
   pub sent : ℕ
 
 abbrev pub port_of : PortQueue → Port
-port_of q = record { control = waits q.pending; frames = waiting q.row; sent = sent_of q.budget }
+port_of q = record { control = waits q.pending; frames = q.row; sent = q.budget }
 
 abbrev pub idle : Port
 idle = record { control = nothing; frames = []; sent = 0 }
@@ -45,23 +43,23 @@ out_of p = out_from (next_of p.control) p
 -- what waits once that has left
 abbrev pub without_out : Option Output → Port → Port
 without_out None p = p
-without_out (Some (Says m)) p = record { control = without m p.control; frames = p.frames; sent = p.sent }
-without_out (Some (Carries f)) p = record { control = p.control; frames = drop 1 p.frames; sent = p.sent + 1 }
+without_out (Some (Says m)) p = record p { control = without m p.control }
+without_out (Some (Carries f)) p = record p { frames = drop 1 p.frames; sent = p.sent + 1 }
 
 abbrev pub after_out : Port → Port
 after_out p = without_out (out_of p) p
 
 -- a frame waits behind the others
 abbrev pub with_frame : List ℕ → Port → Port
-with_frame f p = record { control = p.control; frames = p.frames ++ f ∷ []; sent = p.sent }
+with_frame f p = record p { frames = p.frames ++ f ∷ [] }
 
 abbrev pub with_control : Waits → Port → Port
-with_control w p = record { control = w; frames = p.frames; sent = p.sent }
+with_control w p = record p { control = w }
 
 -- a tick passed
 abbrev pub refilled : Port → Port
-refilled p = record { control = p.control; frames = p.frames; sent = 0 }
+refilled p = record p { sent = 0 }
 
 -- a hold-down began
 abbrev pub emptied : Port → Port
-emptied p = record { control = p.control; frames = []; sent = p.sent }
+emptied p = record p { frames = [] }

@@ -14,7 +14,7 @@ pub data Event : Type 0 where
   Clears : Event
 
 abbrev pub step : Event → Port → Port
-step (Comes f) p = record { control = p.control; frames = row.after (row.Comes f) p.frames; sent = p.sent }
+step (Comes f) p = record p { frames = row.after (row.Comes f) p.frames }
 step (Tells w) p = with_control w p
 step Leaves p = after_out p
 step Ticks p = refilled p

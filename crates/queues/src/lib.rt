@@ -3,9 +3,11 @@
 
 mod port;
 mod queues;
+mod refused;
 #[cfg(test)]
 mod tests;
 pub mod theorems;
 
 pub(crate) use port::PortQueue;
 pub use queues::Queues;
+pub use refused::Refused;

@@ -1,5 +1,5 @@
 // What waits at one port.
-ghost use Rattle.std.specs.Prelude.{◌≡◌, is_some, IfOk};
+ghost use Rattle.std.specs.Prelude.{◌≡◌, ◌≤◌, length, is_some, IfSome, IfOk};
 ghost use Rattle.std.specs.Option.{option_map};
 ghost use Rattle.pending.specs.Waits.{message_of};
 ghost use Rattle.queues.specs.Port.{port_of, idle, message_in, frame_in, out_of, after_out, refilled, emptied};
@@ -39,7 +39,8 @@ impl PortQueue {
 
     // The frame that leaves next: none while a message waits, or once the port has sent all that it may in this tick.
     pub(crate) fn next_frame(&self) -> Option<&[u8]>
-        ensures { option_map (λ x. x.now) result ≡ frame_in (out_of (port_of self.now)) }
+        ensures next { option_map (λ x. x.now) result ≡ frame_in (out_of (port_of self.now)) }
+        ensures within { IfSome result (λ f. length f.now ≤ 1529) }
     {
         if self.pending.peek().is_some() || self.budget.is_spent() {
             return None;
@@ -48,6 +49,7 @@ impl PortQueue {
     }
 
     // What was to leave next has left; false if there was nothing.
+    // Stays: an `Option` of what has left would copy the frame, which the caller read in place before.
     pub(crate) fn sent(&mut self) -> bool
         ensures some { result ≡ is_some (out_of (port_of self.old)) }
         ensures after { port_of self.new ≡ after_out (port_of self.old) }

@@ -47,7 +47,7 @@ record Kept (h : History) : Type 0 where
   count : length h.came ≡ length h.left + length h.waits + h.refused + h.cleared
   small : length h.waits ≤ 16
 
-comes : (f : List ℕ) (h : History) → (t : Bool) → t ≡ takes f h.waits → Kept h → Kept (record { came = h.came ++ f ∷ []; left = h.left; waits = cond t (h.waits ++ f ∷ []) h.waits; refused = cond t h.refused (h.refused + 1); cleared = h.cleared })
+comes : (f : List ℕ) (h : History) → (t : Bool) → t ≡ takes f h.waits → Kept h → Kept (record h { came = h.came ++ f ∷ []; waits = cond t (h.waits ++ f ∷ []) h.waits; refused = cond t h.refused (h.refused + 1) })
 comes f h true e k =
     let room : length h.waits < 16 = grind (arith, nat_tests) in
     let long = length_push h.waits f in

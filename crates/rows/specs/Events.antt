@@ -27,9 +27,9 @@ abbrev pub begin : History
 begin = record { came = []; left = []; waits = []; refused = 0; cleared = 0 }
 
 unfoldable pub happens : Event → History → History
-happens (Comes f) h = record { came = h.came ++ f ∷ []; left = h.left; waits = after (Comes f) h.waits; refused = cond (takes f h.waits) h.refused (h.refused + 1); cleared = h.cleared }
-happens Leaves h = record { came = h.came; left = h.left ++ take 1 h.waits; waits = after Leaves h.waits; refused = h.refused; cleared = h.cleared }
-happens Clears h = record { came = h.came; left = h.left; waits = after Clears h.waits; refused = h.refused; cleared = h.cleared + length h.waits }
+happens (Comes f) h = record h { came = h.came ++ f ∷ []; waits = after (Comes f) h.waits; refused = cond (takes f h.waits) h.refused (h.refused + 1) }
+happens Leaves h = record h { left = h.left ++ take 1 h.waits; waits = after Leaves h.waits }
+happens Clears h = record h { waits = after Clears h.waits; cleared = h.cleared + length h.waits }
 
 unfoldable pub history : List Event → History → History
 history [] h = h

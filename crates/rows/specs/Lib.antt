@@ -1,4 +1,3 @@
-pub mod Budget
 pub mod Events
+pub mod Refused
 pub mod Row
-pub mod Slot

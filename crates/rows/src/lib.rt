@@ -3,6 +3,7 @@
 
 pub mod budget;
 pub mod order;
+pub mod refused;
 pub mod row;
 pub mod slot;
 #[cfg(test)]

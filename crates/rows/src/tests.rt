@@ -1,4 +1,5 @@
 use crate::budget::Budget;
+use crate::refused::Refused;
 use crate::row::Row;
 use std::test::Fail;
 
@@ -7,9 +8,9 @@ use std::test::Fail;
 fn row_at_its_edges(rt: HostRuntime) -> Result<(), Fail> {
     let mut row = Row::new(rt.alloc())?;
     for turn in 0..3u8 {
-        assert!(rt; row.enqueue(&[turn]) && row.pop());
+        assert!(rt; row.enqueue(&[turn]).is_ok() && row.pop());
         for n in 0..20u8 {
-            assert!(rt; row.enqueue(&[n, turn]) == (n < 16));
+            assert!(rt; row.enqueue(&[n, turn]).is_ok() == (n < 16));
         }
         for n in 0..16u8 {
             assert!(rt; row.front() == Some(&[n, turn]) && row.pop());
@@ -23,7 +24,9 @@ fn row_at_its_edges(rt: HostRuntime) -> Result<(), Fail> {
 #[test]
 fn frame_at_its_edges(rt: HostRuntime) -> Result<(), Fail> {
     let mut row = Row::new(rt.alloc())?;
-    assert!(rt; !row.enqueue(&[0; 1530]) && row.enqueue(&[7; 1529]));
+    assert!(rt;
+        row.enqueue(&[0; 1530]) == Err(Refused::TooLong) && row.enqueue(&[7; 1529]).is_ok()
+    );
     row.clear();
     assert!(rt; row.front().is_none());
     Ok(())

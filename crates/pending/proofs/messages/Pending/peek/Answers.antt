@@ -1,8 +1,7 @@
-use Rattle.std.proofs.Common.{ap, ◌∙◌, arith}
-use Rattle.std.specs.Option.{option_map}
+use Rattle.std.proofs.Common.{arith}
 use Rattle.std.proofs.lemmas.Bool.Decides.{nat_tests}
-use Rattle.pending.specs.Waits.{waits, message_of, AckLinkState, AckTree, LinkState, Tree}
-use Rattle.pending.proofs.Lowest.{table_first, table_none, set_first, set_none, second, third, fourth, fifth}
+use Rattle.pending.specs.Waits.{waits, AckLinkState, AckTree, LinkState}
+use Rattle.pending.proofs.Lowest.{table_first, table_none, set_first, set_none, tree_first, second, third, fourth, fifth}
 use Rattle.pending.proofs.messages.Pending.peek.Goals as goal
 
 pub returns-in-Some : goal.returns-in-Some
@@ -11,20 +10,14 @@ returns-in-Some c = second (waits c.args.self.now) _ (grind (arith, nat_tests)) 
 pub returns-in-Some-first : goal.returns-in-Some-first
 returns-in-Some-first c =
     third (waits c.args.self.now) _ (grind (arith, nat_tests)) (table_none AckLinkState _ c.in_default.ensures)
-    (table_first AckTree _ _ _ c.in-Some-first.ack.announcer.ok c.in-Some-first.ensures)
+    (table_first AckTree _ _ _ c.in-Some-first.ack.bridge.ok c.in-Some-first.ensures)
 
 pub returns-in-Some-first-2 : goal.returns-in-Some-first-2
 returns-in-Some-first-2 c =
     fourth (waits c.args.self.now) _ (grind (arith, nat_tests)) (table_none AckLinkState _ c.in_default.ensures) (table_none AckTree _ c.in_default-first.ensures)
     (set_first LinkState _ _ c.in-Some-first-2.bridge.ok c.in-Some-first-2.ensures.0 c.in-Some-first-2.ensures.1)
 
-pub returns-in_err-announcer : goal.returns-in_err-announcer
-returns-in_err-announcer c =
-    ap (option_map message_of) c.from_residual.ensures
-    ∙ fifth (waits c.args.self.now) _ (grind (arith, nat_tests)) (table_none AckLinkState _ c.in_default.ensures) (table_none AckTree _ c.in_default-first.ensures)
-    (set_none LinkState _ c.in_default-first-2.ensures) (set_none Tree _ c.in_err-announcer.ensures)
-
 pub returns : goal.returns
 returns c =
     fifth (waits c.args.self.now) _ (grind (arith, nat_tests)) (table_none AckLinkState _ c.in_default.ensures) (table_none AckTree _ c.in_default-first.ensures)
-    (set_none LinkState _ c.in_default-first-2.ensures) (set_first Tree _ _ c.in_ok-announcer.announcer.ok c.in_ok-announcer.ensures.0 c.in_ok-announcer.ensures.1)
+    (set_none LinkState _ c.in_default-first-2.ensures) (tree_first _ _ _ c.first-4.ensures c.map.ensures.cases)

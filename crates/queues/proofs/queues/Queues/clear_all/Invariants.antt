@@ -1,7 +1,10 @@
-use Rattle.std.proofs.Common.{◌≡◌, ◌++◌, map, take, drop}
-use Rattle.queues.specs.Port.{emptied}
+use Rattle.std.proofs.Common.{◌≡◌, ◌++◌, map, length, take, drop}
+use Rattle.queues.specs.Port.{port_of, emptied}
 use Rattle.queues.specs.Ports.{ports_of}
 use Rattle.queues.proofs.queues.Queues.clear_all.Given as goal
 
-abbrev pub invariant-loop-port : goal.invariant-loop-port
-invariant-loop-port l = ports_of l.self ≡ map emptied (take l.port (ports_of l.initial.self)) ++ drop l.port (ports_of l.initial.self)
+abbrev pub invariant-loop-queue : goal.invariant-loop-queue
+invariant-loop-queue l = record {
+  long : length l.queue-items ≡ 16;
+  so : map port_of l.queue-items ≡ map emptied (take l.queue-index (ports_of l.fn.self)) ++ drop l.queue-index (ports_of l.fn.self);
+}

@@ -1,7 +1,8 @@
-use Rattle.std.proofs.Common.{map, ap, ◌∙◌, rules}
-use Rattle.queues.specs.Port.{port_of}
-use Rattle.queues.proofs.Ports.{port_push}
+use Rattle.std.proofs.Common.{arith, rules}
+use Rattle.queues.proofs.Ports.{idle_all}
 use Rattle.queues.proofs.queues.Queues.new.Goals as goal
 
-pub loop-i-preserved : goal.loop-i-preserved
-loop-i-preserved c = (search rules, search rules, ap (map port_of) c.push_reserved.ensures.items ∙ port_push _ _ _ c.loop-i.invariant.2 c.in_ok-new.ensures)
+pub returns : goal.returns
+returns c =
+    let made = c.in_ok-try_resize_with.ensures.items in
+    idle_all _ _ _ _ _ _ 16 made.3 c.new-ports.ensures.items made.2 (omega (arith, c.try_resize_with.new.self.ok.0, c.in_ok-try_resize_with.ensures.len)) (λ p x q k. search rules)
