@@ -16,4 +16,4 @@ abbrev pub slot_of : Held → Slot
 slot_of h = record { tree = found_in h.tree; table = contents h.table }
 
 abbrev pub state_of : Bridge → State
-state_of b = record { number = b.id.value; ports = b.ports; newest = slot_of b.newest; older = slot_of b.older }
+state_of b = record { number = b.chassis.id.value; ports = b.chassis.ports; newest = slot_of b.newest; older = slot_of b.older }

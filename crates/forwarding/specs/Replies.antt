@@ -1,5 +1,5 @@
 -- What a bridge answers to a frame. Assumes nothing.
-use Rattle.std.specs.Prelude.{◌≡◌, ℕ, ◌<◌, Bool, true, false, cond, not, ◌&&◌, List, Some, None, Ok, Err, Option, Result, ◌==◌, nat_lt, slice_index_or}
+use Rattle.std.specs.Prelude.{◌≡◌, ℕ, Bool, true, false, cond, not, ◌&&◌, List, Some, None, Ok, Err, Option, Result, ◌==◌, nat_lt, slice_index_or}
 use Rattle.bridges.specs.Net.{Found, NoTree, This}
 use Rattle.fdb.specs.declared.entry.Location.{Location}
 use Rattle.fdb.specs.declared.entry.Location.TheVariants.{Here, Behind}
@@ -8,6 +8,7 @@ use Rattle.forwarding.specs.declared.fault.Fault.{Fault}
 use Rattle.forwarding.specs.declared.fault.Fault.TheVariants as fault
 use Rattle.ports.specs.declared.port.Port.TheVariants as port
 use Rattle.ports.specs.declared.port.Link.{Link}
+use Rattle.ports.specs.Flags.{Flags}
 use Rattle.ports.specs.Ports.{Kind, Idle, ToStations, ToBridge, ports_of}
 use Rattle.ports.specs.Places.{Came, ByPort, ByBridge}
 use Rattle.forwarding.specs.State.{Slot, State, is_tree, heard_in, look_in, goes_out, is_access, linked}
@@ -63,9 +64,9 @@ goes Older s vlan came to p = out_of s s.older vlan came to p
 -- the answer: a refusal, or a flag for each port, by the bridge as it then is
 abbrev pub Answers : Way → State → ℕ → Came → ℕ → Result (List Bool) Fault → Type 0
 Answers (Refuse f) s vlan came to r = r ≡ Err f
-Answers Newest s vlan came to (Ok out) = (p : ℕ) → p < 16 → slice_index_or out p false ≡ out_of s s.newest vlan came to p
+Answers Newest s vlan came to (Ok out) = Flags out (out_of s s.newest vlan came to)
 Answers Newest s vlan came to (Err f) = ⊥
-Answers Older s vlan came to (Ok out) = (p : ℕ) → p < 16 → slice_index_or out p false ≡ out_of s s.older vlan came to p
+Answers Older s vlan came to (Ok out) = Flags out (out_of s s.older vlan came to)
 Answers Older s vlan came to (Err f) = ⊥
 
 -- a station's frame comes by a port, from an address to another: the bridge before and after it, and the answer

@@ -1,13 +1,11 @@
 // The bridge itself.
 use crate::held::Held;
-use ports::Port;
-use sets::BridgeId;
+use ports::Chassis;
 
-// A bridge: its number, its ports, and the two trees that it adopted last, the newest first.
+// A bridge: its number and its ports, and the two trees that it adopted last, the newest first.
 #[derive(Drop)]
 pub struct Bridge {
-    pub(crate) id: BridgeId,
-    pub(crate) ports: [Port; 16],
+    pub(crate) chassis: Chassis,
     pub(crate) newest: Held,
     pub(crate) older: Held,
 }

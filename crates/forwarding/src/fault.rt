@@ -3,6 +3,9 @@
 ghost use Rattle.std.specs.Prelude.{◌≡◌};
 ghost use Rattle.forwarding.specs.Faults.{fault_number};
 
+use std::error::Error;
+use std::fmt;
+
 // A refusal: each has a number that users see.
 #[derive(Clone, Copy, PartialEq, Eq, Debug)]
 pub enum Fault {
@@ -24,6 +27,7 @@ pub enum Fault {
 
 impl Fault {
     // The number that users see.
+    // Stays: several refusals have one number, so no discriminant says it, and callers print it among other words.
     pub fn number(self) -> u8
         ensures { result ≡ fault_number self }
     {
@@ -35,3 +39,18 @@ impl Fault {
         }
     }
 }
+
+// A refusal is shown by its number.
+impl fmt::Display for Fault {
+    ghost use Rattle.std.specs.Prelude.{Some};
+    ghost use Rattle.std.specs.Fmt.{decimal};
+    ghost use Rattle.forwarding.specs.Faults.{fault_number};
+
+    ghost output = { λ fault. Some (decimal (fault_number fault)) };
+
+    fn fmt<W: fmt::Write>(&self, f: &mut fmt::Formatter<W>) -> fmt::Result {
+        write!(f, "{}", self.number())
+    }
+}
+
+impl Error for Fault {}

@@ -8,7 +8,7 @@ mod frames;
 mod held;
 mod steps;
 
-pub use along::forward;
+pub use along::{Passing, forward};
 pub use bridge::Bridge;
 pub use fault::Fault;
 pub use frames::Arrival;

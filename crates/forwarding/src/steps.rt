@@ -9,7 +9,7 @@ ghost use Rattle.forwarding.specs.Holding.{slot_of, state_of};
 use crate::held::Held;
 use crate::{Bridge, Fault};
 use fdb::Table;
-use ports::{Link, Port, port_at};
+use ports::{Chassis, Link, Port, PortId};
 use sets::BridgeId;
 use std::alloc::{AllocError, Global};
 use trees::{Tree, TreeId};
@@ -24,15 +24,12 @@ impl Held {
             table: Table::new(heap)?,
         })
     }
-}
 
-// Is it the tree with that number?
-pub(crate) fn holds_number(held: &Held, id: TreeId) -> bool
-    ensures { result ≡ is_tree (id_number id) (slot_of held.now).tree }
-{
-    match &held.tree {
-        Some(tree) => tree.id().same(id),
-        None => false,
+    // Is its tree that with the number?
+    pub(crate) fn has_number(&self, id: TreeId) -> bool
+        ensures { result ≡ is_tree (id_number id) (slot_of self.now).tree }
+    {
+        self.tree.as_ref().is_some_and(|tree| tree.id() == id)
     }
 }
 
@@ -44,8 +41,7 @@ impl Bridge {
         let newest = Held::empty(heap)?;
         let older = Held::empty(heap)?;
         Ok(Bridge {
-            id,
-            ports,
+            chassis: Chassis { id, ports },
             newest,
             older,
         })
@@ -55,20 +51,18 @@ impl Bridge {
     pub fn adopt(self, tree: Tree) -> Bridge
         ensures { state_of result ≡ adopted (meaning tree) (state_of self) }
     {
-        if holds_number(&self.newest, tree.id()) {
+        if self.newest.has_number(tree.id()) {
             return self;
         }
         let Bridge {
-            id,
-            ports,
+            chassis,
             newest,
             older,
         } = self;
         let Held { tree: _, mut table } = older;
         table.clear();
         Bridge {
-            id,
-            ports,
+            chassis,
             newest: Held {
                 tree: Some(tree),
                 table,
@@ -102,16 +96,21 @@ impl Bridge {
         ensures after { state_of result.0 ≡ relinked port link (state_of self) }
         ensures answer { result.1 ≡ link_answer port (state_of self) }
     {
-        if port >= 16 {
-            return (self, Err(Fault::NoSuchPort));
+        let answer = self.relink(port, link);
+        (self, answer)
+    }
+
+    // The same in place, where refusals go by `?`.
+    fn relink(&mut self, port: u8, link: Option<Link>) -> Result<(), Fault>
+        ensures after { state_of self.new ≡ relinked port link (state_of self.old) }
+        ensures answer { result ≡ link_answer port (state_of self.old) }
+    {
+        let port = PortId::new(port).ok_or(Fault::NoSuchPort)?;
+        let place = &mut self.chassis.ports[port.index()];
+        if matches!(place, Port::Access(_)) {
+            return Err(Fault::NotATrunk);
         }
-        if let Port::Access(_) = port_at(&self.ports, port as usize) {
-            return (self, Err(Fault::NotATrunk));
-        }
-        self.ports[port as usize] = match link {
-            Some(link) => Port::Trunk(link),
-            None => Port::Unused,
-        };
-        (self, Ok(()))
+        *place = link.map_or(Port::Unused, Port::Trunk);
+        Ok(())
     }
 }

@@ -3,6 +3,7 @@ use forwarding::{Arrival, Bridge, Fault};
 use ports::{Link, Port, Vlan};
 use sets::BridgeId;
 use std::alloc::Global;
+use std::array;
 use std::test::Fail;
 use trees::{Tree, TreeFault, TreeId};
 
@@ -13,25 +14,16 @@ const LAMP: [u8; 6] = [2, 0, 0, 0, 0, 2];
 const ALL: [u8; 6] = [255; 6];
 
 fn id(b: u8) -> Result<BridgeId, Fail> {
-    let Some(id) = BridgeId::new(b) else {
-        return Err(Fail::new("no such bridge"));
-    };
-    Ok(id)
+    BridgeId::new(b).ok_or_else(|| Fail::new("no such bridge"))
 }
 
 fn vlan(v: u16) -> Result<Vlan, Fail> {
-    let Some(vlan) = Vlan::new(v) else {
-        return Err(Fail::new("no such vlan"));
-    };
-    Ok(vlan)
+    Vlan::new(v).ok_or_else(|| Fail::new("no such vlan"))
 }
 
 // The number of a tree.
 fn number(seq: u32, announcer: u8) -> Result<TreeId, Fail> {
-    let Some(id) = TreeId::new(seq, id(announcer)?, 7) else {
-        return Err(Fail::new("no such number"));
-    };
-    Ok(id)
+    TreeId::new(seq, id(announcer)?, 7).ok_or_else(|| Fail::new("no such number"))
 }
 
 fn trunk(neighbour: u8) -> Result<Port, Fail> {
@@ -48,31 +40,22 @@ fn bare(heap: Global, b: u8, next: u8, last: u8) -> Result<Bridge, Fail> {
     ports[1] = trunk(last)?;
     ports[2] = Port::Access(vlan(10)?);
     ports[3] = Port::Access(vlan(20)?);
-    let Ok(bridge) = Bridge::new(heap, id(b)?, ports) else {
-        return Err(Fail::new("no memory"));
-    };
-    Ok(bridge)
+    Bridge::new(heap, id(b)?, ports).map_err(|_| Fail::new("no memory"))
 }
 
 // What a tree over the ring would be, by the parents of 0, 1 and 2; who isn't at the top is one deep.
 fn made(id: TreeId, above: [u8; 3]) -> Result<Tree, TreeFault> {
-    let mut parent = [0u8; 128];
+    let mut parent = array::from_fn(|b| b as u8);
+    parent[..3].copy_from_slice(&above);
     let mut depth = [0u8; 128];
-    for b in 0..128u8 {
-        parent[b as usize] = b;
-    }
-    for b in 0..3u8 {
-        parent[b as usize] = above[b as usize];
-        depth[b as usize] = if above[b as usize] == b { 0 } else { 1 };
+    for (b, above) in above.iter().enumerate() {
+        depth[b] = u8::from(usize::from(*above) != b);
     }
     Tree::new(id, parent, depth)
 }
 
 fn tree(seq: u32, announcer: u8, above: [u8; 3]) -> Result<Tree, Fail> {
-    let Ok(tree) = made(number(seq, announcer)?, above) else {
-        return Err(Fail::new("not a tree"));
-    };
-    Ok(tree)
+    made(number(seq, announcer)?, above).map_err(|_| Fail::new("not a tree"))
 }
 
 // A bridge of the ring that holds the tree of 0, with 1 and 2 below it.
@@ -97,8 +80,8 @@ fn bits(answer: Result<[bool; 16], Fault>) -> u32 {
     match answer {
         Ok(out) => {
             let mut bits = 0u32;
-            for i in 0..16u32 {
-                if out[i as usize] {
+            for (i, goes) in out.iter().enumerate() {
+                if *goes {
                     bits |= 1 << i;
                 }
             }

@@ -1,9 +1,12 @@
 -- The lowest port to each of some neighbours, one neighbour more at a time.
-use Rattle.std.proofs.Common.{◌≡◌, ℕ, zero, suc, ◌+◌, ◌<◌, Bool, true, false, not, ◌&&◌, ◌||◌, eqb, ltb, List, length, get_or, set, Some, None, Option, sym, refl, ap, ◌∙◌, subst, arith, length-set, get_or-set_other, get_or-set_same, MatchOption}
+use Rattle.std.proofs.Common.{◌≡◌, ℕ, zero, suc, ◌+◌, ◌<◌, ◌≤◌, Bool, true, false, not, ◌&&◌, ◌||◌, eqb, ltb, List, length, get_or, set, Some, None, Option, sym, refl, ap, ◌∙◌, subst, arith, length-set, get_or-set_other, get_or-set_same, MatchOption}
 use native.Mathlib.Decide.{ℕ_discrete, dec_lt}
 use Rattle.std.proofs.lemmas.Bool.Decides.{nat_tests}
 use Rattle.ports.specs.declared.port.PortId.{PortId}
-use Rattle.ports.specs.Ports.{Kind, Idle, ToStations, ToBridge, leads_to, none_below, onward, onward_by}
+use Rattle.std.specs.List.{AllWithin, HoldsAt}
+use Rattle.ports.specs.declared.port.Port.{Port}
+use Rattle.ports.specs.declared.port.Port.TheVariants.{Unused}
+use Rattle.ports.specs.Ports.{leads, ports_of, Kind, Idle, ToStations, ToBridge, leads_to, none_below, onward, onward_by}
 use Rattle.ports.specs.Flags.{marked}
 
 pub none_below_lem : (port : ℕ → Kind) (c n p : ℕ) → none_below port c n ≡ true → p < n → leads_to (port p) c ≡ false
@@ -97,3 +100,18 @@ none_more H R R' port c d F F' lt dc i rd f r = (
     other : (k : ℕ) → k < 128 → Dec (k ≡ c) → R' k ≡ (not (ltb k (c + 1)) && H k)
     other k h (yes q) = subst (λ k. k < 128 → R' k ≡ (not (ltb k (c + 1)) && H k)) (sym q) (λ lt. grind (arith, nat_tests, i.1 c lt, r c)) h
     other k h (no n) = grind (arith, nat_tests, i.1 k h, r k)
+
+pub none_below_from : (port : ℕ → Kind) (c n : ℕ) → ((k : ℕ) → 0 ≤ k → k < n → leads_to (port k) c ≡ false) → none_below port c n ≡ true
+unfolding none_below
+none_below_from port c zero h = refl
+none_below_from port c (suc n) h = let e : none_below port c n ≡ true = none_below_from port c n (λ k z l. h k z (omega arith)) in let f : leads_to (port n) c ≡ false = h n (omega arith) (omega arith) in grind (arith, nat_tests)
+
+-- the port of the lowest number that leads there, if one does
+pub lowest_from : (ps : List Port) (c : ℕ) (found : Option ℕ) (r : Option PortId) → length ps ≡ 16 →
+    MatchOption found (AllWithin (λ p. leads p c ≡ false) ps 0 (length ps)) (λ i. (i < length ps) × HoldsAt (λ p. leads p c ≡ true) ps i × AllWithin (λ p. leads p c ≡ false) ps 0 i) →
+    MatchOption found (r ≡ None) (λ i. i < 16 → MatchOption r (16 ≤ i) (λ p. p.value ≡ i)) →
+    MatchOption r (none_below (ports_of ps) c 16 ≡ true) (λ p. (leads_to (ports_of ps p.value) c ≡ true) × (none_below (ports_of ps) c p.value ≡ true))
+lowest_from ps c None r l f e = rw e (none_below_from (ports_of ps) c 16 (λ k z h. f k Unused z (subst (λ n. k < n) (sym l) h)))
+lowest_from ps c (Some i) None l f e = let h : i < 16 = subst (λ n. i < n) l f.0 in absurd (omega (arith, h, e h))
+lowest_from ps c (Some i) (Some p) l f e = let h : i < 16 = subst (λ n. i < n) l f.0 in
+    subst (λ i. (leads_to (ports_of ps i) c ≡ true) × (none_below (ports_of ps) c i ≡ true)) (sym (e h)) (f.1 Unused, none_below_from (ports_of ps) c i (λ k z m. f.2 k Unused z m))

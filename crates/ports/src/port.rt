@@ -5,7 +5,8 @@ use crate::Vlan;
 use sets::BridgeId;
 
 // The number of a port of a bridge: so that its array of ports may be indexed by it.
-#[derive(Clone, Copy)]
+// A type of its own, as BridgeId is, and no common `Below<MOST>`: the two names say of what a number is, and can't be mixed up.
+#[derive(Clone, Copy, PartialEq, Eq, Debug)]
 pub struct PortId {
     value: u8,
     ghost ok: { value < 16 },
@@ -13,10 +14,11 @@ pub struct PortId {
 
 impl PortId {
     // The port with this number: None where no bridge has it.
+    // Stays: `new` is public, and a TryFrom beside it would have an error that says no more than None.
     pub fn new(value: u8) -> Option<PortId>
         ensures { MatchOption result (16 ≤ value) (λ p. (value < 16) × (p.value ≡ value)) }
     {
-        if (value as usize) < crate::MOST_PORTS {
+        if usize::from(value) < crate::MOST_PORTS {
             Some(PortId { value })
         } else {
             None
@@ -24,6 +26,7 @@ impl PortId {
     }
 
     // Its number.
+    // Stays: `value` is public, and `u8::from(port)` would lose that it is below 16.
     pub fn value(self) -> u8
         ensures { (result ≡ self.value) × (result < 16) }
     {
@@ -31,6 +34,7 @@ impl PortId {
     }
 
     // Its number as an index.
+    // Stays: `index` is public, and `usize::from(port)` would lose that it is below 16.
     pub fn index(self) -> usize
         ensures { (result ≡ self.value) × (result < 16) }
     {
@@ -39,7 +43,7 @@ impl PortId {
 }
 
 // What a port is for.
-#[derive(Clone, Copy)]
+#[derive(Clone, Copy, PartialEq, Eq, Debug)]
 pub enum Port {
     // Nothing is handed on by it: it isn't there, or has no VLAN or no neighbour yet.
     Unused,
@@ -50,7 +54,7 @@ pub enum Port {
 }
 
 // A link to a neighbour.
-#[derive(Clone, Copy)]
+#[derive(Clone, Copy, PartialEq, Eq, Debug)]
 pub struct Link {
     pub neighbour: BridgeId,
     pub up: bool,
@@ -60,9 +64,5 @@ pub struct Link {
 pub fn port_at(ports: &[Port; 16], i: usize) -> Port
     ensures { result ≡ slice_index_or ports.now i Port.Unused }
 {
-    if i < ports.len() {
-        ports[i]
-    } else {
-        Port::Unused
-    }
+    ports.get(i).copied().unwrap_or(Port::Unused)
 }
