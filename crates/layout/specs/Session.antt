@@ -1,10 +1,11 @@
 -- A script read line by line.
-use Rattle.std.specs.Prelude.{◌≡◌, ℕ, ◌+◌, ◌-◌, ◌^◌, ◌<◌, min, List, [], length, take, drop, Some, None, Ok, Err, Option, Result}
+use Rattle.std.specs.Prelude.{◌≡◌, ℕ, ◌+◌, ◌-◌, ◌^◌, ◌<◌, min, List, [], ◌++◌, length, take, drop, codes, decimal, Some, None, Ok, Err, Option, Result}
 use Rattle.std.specs.List.{prefix_len}
 use Rattle.scan.specs.declared.bytes.Kind.TheVariants.{Line}
 use Rattle.scan.specs.Bytes.{is_of}
 use Rattle.script.specs.declared.faults.Expected.{Expected}
 use Rattle.script.specs.declared.lines.Command.{Command}
+use Rattle.script.specs.Faults.{words_for}
 use Rattle.script.specs.Grammar.{thus, meant, command_of}
 use Rattle.layout.specs.declared.session.Fault.{Fault}
 use Rattle.layout.specs.declared.session.Session.{Session}
@@ -25,6 +26,10 @@ number_after n = min (n + 1) (2 ^ 64 - 1)
 -- what is not read yet
 abbrev pub unread_of : Session → List ℕ
 unread_of s = s.rest.now
+
+-- a fault in words
+abbrev pub told : Fault → List ℕ
+told f = codes "line " ++ decimal f.line ++ codes ": fault " ++ decimal 10 ++ codes ": expected " ++ words_for f.expected
 
 -- a line is read and done, or the net stays as it was
 abbrev pub Stepped : State → List ℕ → Result Command Expected → State → Type 0

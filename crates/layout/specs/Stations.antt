@@ -1,8 +1,8 @@
 -- Stations with their names, addresses and ports.
-use Rattle.std.specs.Prelude.{ℕ, Bool, cond, not, List, [], ◌∷◌, ◌++◌, map, length, take, Ok, Err, vec_items, Result, Vec, nat_lt, slice_index_or, slice_set}
+use Rattle.std.specs.Prelude.{ℕ, Bool, cond, not, List, [], ◌∷◌, ◌++◌, map, length, take, codes, Ok, Err, vec_items, Result, Vec, nat_lt, slice_index_or, slice_set}
 use Rattle.std.specs.declared.alloc.Global.{Global}
 use Rattle.std.specs.List.{prefix_len}
-use Rattle.std.specs.Str.{bytes_eq}
+use Rattle.std.specs.Str.{bytes_eq, is_utf8}
 use Rattle.scan.specs.declared.parts.PortRef.{PortRef}
 use Rattle.script.specs.declared.faults.Expected.{Expected}
 use Rattle.script.specs.declared.faults.Expected.TheVariants as expected
@@ -21,6 +21,10 @@ pub record Placed : Type 0 where
 -- the bytes of a name
 abbrev pub text_of : Name → List ℕ
 text_of n = take n.len n.bytes
+
+-- a name as it is printed
+abbrev pub shown : Name → List ℕ
+shown n = cond (is_utf8 (text_of n)) (text_of n) (codes "?")
 
 -- a station of the code
 abbrev pub placed : Station → Placed

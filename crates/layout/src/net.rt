@@ -34,8 +34,7 @@ impl Layout {
     pub fn wiring(&self) -> Wiring
         ensures { result ≡ self.now.wiring }
     {
-        let wiring = self.wiring;
-        wiring
+        self.wiring
     }
 
     /// The stations.
@@ -60,6 +59,7 @@ impl Layout {
     pub fn apply(&mut self, command: Command<'_>) -> Result<(), Expected>
         ensures { Did (applied (state_of self.old) (meant command.entry)) result (state_of self.old) (state_of self.new) }
     {
+        // Stays: each kind of command does something of its own, which a closure for each would say no plainer.
         match command {
             Command::Bridge {
                 node,

@@ -4,16 +4,20 @@ ghost use Rattle.wiring.specs.Rules.{Did};
 ghost use Rattle.layout.specs.Stations.{placed_in, station_added, station_moved, has_name, has_address, name_index, want_station};
 
 use crate::names::Name;
-use crate::stations::{Station, find_address, find_name};
+use crate::stations::Station;
 use scan::parts::PortRef;
 use script::faults::Expected;
 use std::alloc::{AllocError, Global};
 use wiring::boxes::Wiring;
 use wiring::rules::want_access;
 
+/// How many stations there can be.
+const MOST: usize = 32;
+
 /// The stations of a net, each with a name and an address of its own.
 #[derive(Drop)]
 pub struct Roster {
+    // Stays: at most 32 in the order in which they came, which a map would lose.
     list: Vec<Station>,
     ghost room: { (vec_len list ≤ 32) × (32 ≤ vec_capacity list) },
 }
@@ -23,7 +27,7 @@ impl Roster {
     pub fn new(heap: Global) -> Result<Roster, AllocError>
         ensures { IfOk result (λ x. placed_in x.list ≡ []) }
     {
-        let list = Vec::with_capacity(heap, 32)?;
+        let list = Vec::with_capacity(heap, MOST)?;
         Ok(Roster { list })
     }
 
@@ -31,8 +35,7 @@ impl Roster {
     pub fn stations(&self) -> &[Station]
         ensures { result.now ≡ self.now.list.items }
     {
-        let stations = self.list.as_slice();
-        stations
+        self.list.as_slice()
     }
 
     /// Adds a station at an access port.
@@ -45,9 +48,7 @@ impl Roster {
     ) -> Result<(), Expected>
         ensures { Did (station_added wiring.now.nodes (placed_in self.old.list) name.now address port) result (placed_in self.old.list) (placed_in self.new.list) }
     {
-        let Some(kept) = Name::new(name) else {
-            return Err(Expected::Name);
-        };
+        let kept = Name::new(name).ok_or(Expected::Name)?;
         if self.has_name(name) {
             return Err(Expected::NewName);
         }
@@ -55,7 +56,7 @@ impl Roster {
             return Err(Expected::NewAddress);
         }
         want_access(wiring.port(port))?;
-        if self.list.len() >= 32 {
+        if self.list.len() >= MOST {
             return Err(Expected::StationRoom);
         }
         self.list.push_reserved(Station {
@@ -70,9 +71,7 @@ impl Roster {
     pub fn relocate(&mut self, wiring: &Wiring, name: &[u8], port: PortRef) -> Result<(), Expected>
         ensures { Did (station_moved wiring.now.nodes (placed_in self.old.list) name.now port) result (placed_in self.old.list) (placed_in self.new.list) }
     {
-        let Some(i) = self.place_of(name) else {
-            return Err(Expected::StationThere);
-        };
+        let i = self.place_of(name).ok_or(Expected::StationThere)?;
         want_access(wiring.port(port))?;
         self.list[i].port = port;
         Ok(())
@@ -82,36 +81,30 @@ impl Roster {
     fn place_of(&self, name: &[u8]) -> Option<usize>
         ensures { MatchOption result (has_name name.now (placed_in self.now.list) ≡ false) (λ i. (has_name name.now (placed_in self.now.list) ≡ true) × (i ≡ name_index name.now (placed_in self.now.list)) × (i < vec_len self.now.list)) }
     {
-        let i = find_name(self.list.as_slice(), name);
-        if i < self.list.len() { Some(i) } else { None }
+        self.list.iter().position(|s| s.name.text() == name)
     }
 
     /// Says whether a station has a name.
     fn has_name(&self, name: &[u8]) -> bool
         ensures { result ≡ has_name name.now (placed_in self.now.list) }
     {
-        match self.place_of(name) {
-            Some(_) => true,
-            None => false,
-        }
+        self.place_of(name).is_some()
     }
 
     /// Says whether a station has an address.
-    fn has_address(&self, address: &[u8]) -> bool
+    fn has_address(&self, address: &[u8; 6]) -> bool
         ensures { result ≡ has_address address.now (placed_in self.now.list) }
     {
-        find_address(self.list.as_slice(), address) < self.list.len()
+        self.list.iter().any(|s| s.address == *address)
     }
 
     /// Refuses a name that no station has.
     pub fn want(&self, name: &[u8]) -> Result<(), Expected>
         ensures { result ≡ want_station name.now (placed_in self.now.list) }
     {
-        let there = self.has_name(name);
-        if there {
-            Ok(())
-        } else {
-            Err(Expected::StationThere)
+        if !self.has_name(name) {
+            return Err(Expected::StationThere);
         }
+        Ok(())
     }
 }

@@ -1,5 +1,6 @@
 // A script read line by line, up to its first fault.
-ghost use Rattle.std.specs.Prelude.{◌≡◌, ◌<◌, true, length, is_some, IfOk};
+ghost use Rattle.std.specs.Prelude.{◌≡◌, ◌<◌, true, length, is_some, IfOk, ⊤};
+ghost use Rattle.std.specs.Iterator.{MakesProgress, item_count};
 ghost use Rattle.layout.specs.Net.{state_of, empty_state};
 ghost use Rattle.layout.specs.Session.{line_in, after_line, unread_of, Reads, Stepped};
 
@@ -8,25 +9,32 @@ use scan::bytes::{Kind, run};
 use script::faults::Expected;
 use script::lines::{Command, read_line};
 use std::alloc::{AllocError, Global};
+use std::error::Error;
 use std::fmt;
 
 /// The number of a fault in a script, for all kinds of them.
 pub const FAULT: u8 = 10;
 
 /// Where a script is at fault, and what was expected there.
-#[derive(Clone, Copy, Debug)]
+#[derive(Clone, Copy, PartialEq, Eq, Debug)]
 pub struct Fault {
     pub line: u64,
     pub expected: Expected,
 }
 
 impl fmt::Display for Fault {
+    ghost use Rattle.std.specs.Prelude.{Some};
+    ghost use Rattle.layout.specs.Session.{told};
+
+    ghost output = { λ f. Some (told f) };
+
     fn fmt<W: fmt::Write>(&self, f: &mut fmt::Formatter<W>) -> fmt::Result {
-        let line = self.line;
-        let expected = self.expected;
+        let Fault { line, expected } = self;
         write!(f, "line {line}: fault {FAULT}: expected {expected}")
     }
 }
+
+impl Error for Fault {}
 
 /// A script that is being read, with the net that it has described so far.
 #[derive(Drop)]
@@ -36,25 +44,13 @@ pub struct Session<'a> {
     layout: Layout,
 }
 
-/// The line in front of a text.
-fn first_line(text: &[u8]) -> &[u8]
-    ensures { result.now ≡ line_in text.now }
+/// The line in front of a text, and what stands after it.
+fn split_line(text: &[u8]) -> (&[u8], &[u8])
+    ensures line { result.0.now ≡ line_in text.now }
+    ensures rest { result.1.now ≡ after_line text.now }
 {
-    let (line, _) = text.split_at(run(text, Kind::Line));
-    line
-}
-
-/// What stands after the line in front of a text.
-fn other_lines(text: &[u8]) -> &[u8]
-    ensures { result.now ≡ after_line text.now }
-{
-    let n = run(text, Kind::Line);
-    if n < text.len() {
-        let (_, rest) = text.split_at(n + 1);
-        rest
-    } else {
-        &[]
-    }
+    let (line, rest) = text.split_at(run(text, Kind::Line));
+    (line, rest.get(1..).unwrap_or(&[]))
 }
 
 /// Reads a line and does what it says.
@@ -90,21 +86,30 @@ impl<'a> Session<'a> {
     pub fn line(&self) -> u64
         ensures { result ≡ self.now.line }
     {
-        let number = self.line;
-        number
+        self.line
     }
+}
+
+impl<'a> Iterator for Session<'a> {
+    type Item = Result<Command<'a>, Fault>;
+
+    ghost next_gives = { Reads };
+
+    ghost remaining = { item_count unread_of };
 
     /// Reads the next line: its command, or the fault after which nothing is read.
-    pub fn next(&mut self) -> Option<Result<Command<'a>, Fault>>
+    fn next(&mut self) -> Option<Result<Command<'a>, Fault>>
         ensures reads { Reads self.old result self.new }
         ensures shorter { is_some result ≡ true → length (unread_of self.new) < length (unread_of self.old) }
+        ensures goes { MakesProgress (λ _. ⊤) (item_count unread_of) self.old result self.new }
     {
         if self.rest.is_empty() {
             return None;
         }
-        let line = first_line(self.rest);
-        self.rest = other_lines(self.rest);
+        let (line, rest) = split_line(self.rest);
+        self.rest = rest;
         self.line = self.line.saturating_add(1);
+        // Stays: with `map_err`, and the rest emptied where `is_err` holds, the clause `reads` stays open.
         match step(&mut self.layout, line) {
             Ok(command) => Some(Ok(command)),
             Err(expected) => {

@@ -1,5 +1,5 @@
 -- The kinds of bytes of a script.
-use Rattle.std.specs.Prelude.{ℕ, Bool, true, not, ◌&&◌, ◌||◌, List, [], ◌∷◌, ◌==◌, nat_le}
+use Rattle.std.specs.Prelude.{ℕ, Bool, not, ◌&&◌, ◌||◌, ◌==◌, nat_le}
 use Rattle.scan.specs.declared.bytes.Kind.{Kind}
 use Rattle.scan.specs.declared.bytes.Kind.TheVariants.{Blank, Solid, Plain, Code, Line, Digit, BoxDigit, Letter}
 
@@ -24,8 +24,3 @@ is_of Digit b = between 48 57 b
 is_of BoxDigit b = between 48 53 b
 -- what a name is made of
 is_of Letter b = between 97 122 b || between 65 90 b || between 48 57 b || b == 45
-
--- each of the bytes passes
-unfoldable pub all : (ℕ → Bool) → List ℕ → Bool
-all p [] = true
-all p (b ∷ bs) = p b && all p bs

@@ -1,63 +1,49 @@
 // The parts of a command that one word gives: numbers, ports, names and addresses.
-ghost use Rattle.std.specs.Prelude.{◌≡◌, ℕ, ◌+◌, ◌<◌, ◌≤◌, true, length, IfSome, ◌==◌, slice_index};
-ghost use Rattle.scan.specs.Parts.{is_digits, number_in, port_of, is_name, hex_of, pair_at, colons, address_of, parent_at, parents_of};
+ghost use Rattle.std.specs.Prelude.{◌≡◌, ◌≤◌, Some, IfSome};
+ghost use Rattle.scan.specs.Parts.{number_in, port_text, port_of, is_name, hex_of, pair_of, address_of, parent_at, parents_of};
 
-use crate::bytes::{Kind, all_of, run, same};
+use crate::bytes::{Kind, all_of, run};
+use std::fmt;
 
 /// A port of a box, as the script names it.
-#[derive(Clone, Copy, PartialEq, Eq, Debug)]
+#[derive(Clone, Copy, PartialEq, Eq, PartialOrd, Ord, Hash, Debug)]
 pub struct PortRef {
     pub node: u8,
     pub port: u8,
 }
 
-/// Says whether a word is one or more decimal digits.
-fn is_digits(word: &[u8]) -> bool
-    ensures { result ≡ is_digits word.now }
-{
-    !word.is_empty() && all_of(word, Kind::Digit)
+impl fmt::Display for PortRef {
+    ghost output = { λ p. Some (port_text p) };
+
+    fn fmt<W: fmt::Write>(&self, f: &mut fmt::Formatter<W>) -> fmt::Result {
+        write!(f, "{}.{}", self.node, self.port)
+    }
 }
 
+// Stays: FromStr takes a text and knows no limits;
+// `low..=high` is a RangeInclusive, whose third field, whether it has run to its end, the contract would have to speak of.
 /// Reads a number in decimal digits that lies between two limits.
 pub fn number(word: &[u8], low: u32, high: u32) -> Option<u32>
     ensures value { result ≡ number_in low high word.now }
     ensures bound { IfSome result (λ n. (low ≤ n) × (n ≤ high)) }
 {
-    if !is_digits(word) {
+    if word.is_empty() {
         return None;
     }
-    let mut value: u64 = 0;
+    let mut value: u32 = 0;
     for b in word {
-        value = value * 10 + u64::from(*b).saturating_sub(48);
-        if value > u64::from(high) {
-            return None;
-        }
+        let digit = char::from(*b).to_digit(10)?;
+        value = value.checked_mul(10)?.checked_add(digit)?;
     }
-    if value < u64::from(low) {
-        None
-    } else {
-        Some(value as u32)
-    }
-}
-
-/// Says whether a dot stands at a place.
-fn has_dot(word: &[u8], at: usize) -> bool
-    ensures value { result ≡ (slice_index word.now at == 46) }
-    ensures within { result ≡ true → at < length word.now }
-{
-    at < word.len() && word[at] == b'.'
+    (low..=high).contains(&value).then_some(value)
 }
 
 /// Reads a port, as BOX.PORT.
 pub fn port(word: &[u8]) -> Option<PortRef>
     ensures { result ≡ port_of word.now }
 {
-    let dot = run(word, Kind::Digit);
-    if !has_dot(word, dot) {
-        return None;
-    }
-    let (before, _) = word.split_at(dot);
-    let (_, after) = word.split_at(dot + 1);
+    let (before, rest) = word.split_at(run(word, Kind::Digit));
+    let after = rest.strip_prefix(b".".as_slice())?;
     let node = number(before, 0, 5)? as u8;
     let port = number(after, 0, 15)? as u8;
     Some(PortRef { node, port })
@@ -67,83 +53,72 @@ pub fn port(word: &[u8]) -> Option<PortRef>
 pub fn is_name(word: &[u8]) -> bool
     ensures { result ≡ is_name word.now }
 {
-    1 <= word.len() && word.len() <= 16 && all_of(word, Kind::Letter) && !same(word, b"all")
+    (1..=16).contains(&word.len()) && all_of(word, Kind::Letter) && !matches!(word, b"all")
 }
 
 /// Reads a hex digit.
 fn hex(b: u8) -> Option<u8>
     ensures { result ≡ hex_of b }
 {
-    match b {
-        b'0'..=b'9' => Some(b - b'0'),
-        b'a'..=b'f' => Some(b - b'a' + 10),
-        b'A'..=b'F' => Some(b - b'A' + 10),
-        _ => None,
-    }
+    Some(char::from(b).to_digit(16)? as u8)
 }
 
-/// Reads the pair of hex digits that stands at a place.
-fn pair(word: &[u8], at: usize) -> Option<u8>
-    requires { at + 1 < length word.now }
-    ensures { result ≡ pair_at word.now at }
+/// Reads the pair of hex digits that write a byte.
+fn pair(high: u8, low: u8) -> Option<u8>
+    ensures { result ≡ pair_of high low }
 {
-    Some(hex(word[at])? * 16 + hex(word[at + 1])?)
-}
-
-/// Says whether colons separate six pairs.
-fn has_colons(word: &[u8]) -> bool
-    requires { length word.now ≡ 17 }
-    ensures { result ≡ colons word.now }
-{
-    word[2] == b':' && word[5] == b':' && word[8] == b':' && word[11] == b':' && word[14] == b':'
+    Some(hex(high)? * 16 + hex(low)?)
 }
 
 /// Reads an address of six pairs of hex digits with colons, whose first byte is even.
 pub fn address(word: &[u8]) -> Option<[u8; 6]>
     ensures { result ≡ address_of word.now }
 {
-    if word.len() != 17 || !has_colons(word) {
+    let [
+        a,
+        b,
+        b':',
+        c,
+        d,
+        b':',
+        e,
+        f,
+        b':',
+        g,
+        h,
+        b':',
+        i,
+        j,
+        b':',
+        k,
+        l,
+    ] = word
+    else {
         return None;
-    }
-    let first = pair(word, 0)?;
-    if first % 2 == 1 {
-        return None;
-    }
-    Some([
-        first,
-        pair(word, 3)?,
-        pair(word, 6)?,
-        pair(word, 9)?,
-        pair(word, 12)?,
-        pair(word, 15)?,
-    ])
+    };
+    let address = [
+        pair(*a, *b)?,
+        pair(*c, *d)?,
+        pair(*e, *f)?,
+        pair(*g, *h)?,
+        pair(*i, *j)?,
+        pair(*k, *l)?,
+    ];
+    (address[0] % 2 == 0).then_some(address)
 }
 
 /// The box above a box, by the digit at its place; a box that has none stands above itself.
 fn parent_at(word: &[u8], node: u8) -> u8
     ensures { result ≡ parent_at word.now node }
 {
-    let i = node as usize;
-    if i < word.len() {
-        word[i].saturating_sub(48)
-    } else {
-        node
-    }
+    word.get(usize::from(node))
+        .map_or(node, |digit| digit.saturating_sub(b'0'))
 }
 
 /// Reads the boxes above boxes 0, 1, 2 and so on, a digit for each.
 pub fn parents(word: &[u8]) -> Option<[u8; 6]>
     ensures { result ≡ parents_of word.now }
 {
-    if word.is_empty() || word.len() > 6 || !all_of(word, Kind::BoxDigit) {
-        return None;
-    }
-    Some([
-        parent_at(word, 0),
-        parent_at(word, 1),
-        parent_at(word, 2),
-        parent_at(word, 3),
-        parent_at(word, 4),
-        parent_at(word, 5),
-    ])
+    let above = [0, 1, 2, 3, 4, 5].map(|node| parent_at(word, node));
+    ((1..=6).contains(&word.len()) && all_of(word, Kind::BoxDigit)).then_some(above)
 }

@@ -1,6 +1,8 @@
 // The words of a line, one after the other.
-ghost use Rattle.std.specs.Prelude.{◌≡◌, List, [], ◌∷◌, length, MatchOption};
-ghost use Rattle.scan.specs.Words.{words_of, first_of, after_of, skipped};
+ghost use Rattle.std.specs.Prelude.{◌≡◌, ⊤};
+ghost use Rattle.std.specs.Iterator.{MakesProgress, YieldsFirstRef, item_count};
+ghost use Rattle.scan.specs.Words.{after_of, skipped};
+ghost use Rattle.scan.specs.Reading.{left};
 
 use crate::bytes::{Kind, run};
 
@@ -18,30 +20,37 @@ impl<'a> Words<'a> {
         Words { rest: line }
     }
 
-    /// Takes the next word, or says that there is none.
-    pub fn next(&mut self) -> Option<&'a [u8]>
-        ensures cases { MatchOption result ((words_of self.old.rest.now ≡ []) × (words_of self.new.rest.now ≡ [])) (λ w. words_of self.old.rest.now ≡ w.now ∷ words_of self.new.rest.now) }
-        ensures after { self.new.rest.now ≡ after_of self.old.rest.now }
-    {
-        self.skip();
-        let (word, rest) = self.rest.split_at(run(self.rest, Kind::Solid));
-        self.rest = rest;
-        if word.is_empty() { None } else { Some(word) }
-    }
-
     /// Passes over the blanks before the next word.
     pub fn skip(&mut self)
         ensures { self.new.rest.now ≡ skipped self.old.rest.now }
     {
-        let (_, rest) = self.rest.split_at(run(self.rest, Kind::Blank));
-        self.rest = rest;
+        self.rest = &self.rest[run(self.rest, Kind::Blank)..];
     }
 
     /// What is left of the line as it stands.
     pub fn rest(&self) -> &'a [u8]
         ensures { result.now ≡ self.now.rest.now }
     {
-        let left = self.rest;
-        left
+        self.rest
+    }
+}
+
+impl<'a> Iterator for Words<'a> {
+    type Item = &'a [u8];
+
+    ghost next_gives = { YieldsFirstRef left };
+
+    ghost remaining = { item_count left };
+
+    /// Takes the next word, or says that there is none.
+    fn next(&mut self) -> Option<&'a [u8]>
+        ensures cases { YieldsFirstRef left self.old result self.new }
+        ensures goes { MakesProgress (λ _. ⊤) (item_count left) self.old result self.new }
+        ensures after { self.new.rest.now ≡ after_of self.old.rest.now }
+    {
+        self.skip();
+        let (word, rest) = self.rest.split_at(run(self.rest, Kind::Solid));
+        self.rest = rest;
+        (!word.is_empty()).then_some(word)
     }
 }

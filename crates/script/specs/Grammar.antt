@@ -1,5 +1,6 @@
 -- The commands of a script, and the words that give them.
-use Rattle.std.specs.Prelude.{ℕ, ◌-◌, cond, List, [], ◌∷◌, length, take, Some, None, Ok, Err, codes, Option, Result}
+use Rattle.std.specs.Prelude.{◌≡◌, ℕ, ◌-◌, cond, List, [], ◌∷◌, length, take, Some, None, Ok, Err, codes, Option, Result}
+use Rattle.std.specs.Borrow.{Bor}
 use Rattle.std.specs.Option.{ok_or}
 use Rattle.std.specs.Str.{bytes_eq}
 use Rattle.scan.specs.declared.parts.PortRef.{PortRef}
@@ -9,12 +10,12 @@ use Rattle.script.specs.declared.lines.Command.{Command}
 use Rattle.script.specs.declared.lines.Command.TheVariants as command
 use Rattle.script.specs.declared.lines.Target.{Target}
 use Rattle.script.specs.declared.lines.Target.TheVariants as target
-use Rattle.std.specs.List.{prefix_len, suffix_len}
+use Rattle.std.specs.List.{prefix_len, suffix_len, list_all}
 use Rattle.scan.specs.declared.bytes.Kind.TheVariants.{Blank, Plain, Code}
 use Rattle.script.specs.declared.verbs.Verb.{Verb}
 use Rattle.script.specs.declared.verbs.Verb.TheVariants as verb
 use Rattle.script.specs.Verbs.{verb_of}
-use Rattle.scan.specs.Bytes.{all, between, is_of}
+use Rattle.scan.specs.Bytes.{between, is_of}
 use Rattle.scan.specs.Words.{words_of, after_of, skipped}
 use Rattle.scan.specs.Parts.{is_name, number_in, port_of, name_of, address_of, parents_of}
 
@@ -79,6 +80,11 @@ unfoldable pub part : {A : Type 0} → (List ℕ → Option A) → Expected → 
 part f e [] = Err e
 part f e (w ∷ ws) = ok_or (f w) e
 
+-- the same, where R says what the first word may give
+abbrev pub IsPart : {A : Type 0} → (Bor (List ℕ) → Option A → Type 0) → Expected → List (List ℕ) → Result A Expected → Type 0
+IsPart R e [] r = r ≡ Err e
+IsPart {A} R e (w ∷ ws) r = (b : Bor (List ℕ)) × (o : Option A) × (b.now ≡ w) × R b o × (r ≡ ok_or o e)
+
 unfoldable pub tail : List (List ℕ) → List (List ℕ)
 tail [] = []
 tail (w ∷ ws) = ws
@@ -93,19 +99,19 @@ thus (Ok x) k = k x
 thus (Err e) k = Err e
 
 -- the first word read, and then the others
-abbrev pub reads : {A : Type 0} → (List ℕ → Option A) → Expected → List (List ℕ) → (A → List (List ℕ) → Result Said Expected) → Result Said Expected
+abbrev pub reads : {A B : Type 0} → (List ℕ → Option A) → Expected → List (List ℕ) → (A → List (List ℕ) → Result B Expected) → Result B Expected
 reads f e ws k = thus (part f e ws) (λ x. k x (tail ws))
 
 -- no more words after what was said
-abbrev pub all_said : List (List ℕ) → Said → Result Said Expected
+abbrev pub all_said : {A : Type 0} → List (List ℕ) → A → Result A Expected
 all_said ws s = thus (ended ws) (λ _. Ok s)
 
 -- BOX, a box
-abbrev pub box : List (List ℕ) → (ℕ → List (List ℕ) → Result Said Expected) → Result Said Expected
+abbrev pub box : {A : Type 0} → List (List ℕ) → (ℕ → List (List ℕ) → Result A Expected) → Result A Expected
 box = reads (number_in 0 5) expected.BoxNumber
 
 -- BOX.PORT, a port
-abbrev pub port : List (List ℕ) → (PortRef → List (List ℕ) → Result Said Expected) → Result Said Expected
+abbrev pub port : {A : Type 0} → List (List ℕ) → (PortRef → List (List ℕ) → Result A Expected) → Result A Expected
 port = reads port_of expected.PortName
 
 -- NAME, the name of a station
@@ -123,11 +129,19 @@ bridge_of ws = box ws (λ n ws. reads (number_in 1 16) expected.PortCount ws (λ
 abbrev pub access_of : List (List ℕ) → Result Said Expected
 access_of ws = port ws (λ p ws. reads (number_in 1 4094) expected.Vlan ws (λ v ws. all_said ws (access p v)))
 
+-- BOX and nothing more
+abbrev pub one_box_of : List (List ℕ) → Result ℕ Expected
+one_box_of ws = box ws (λ n ws. all_said ws n)
+
+-- two ports and nothing more
+abbrev pub two_ports_of : List (List ℕ) → Result (PortRef × PortRef) Expected
+two_ports_of ws = port ws (λ p ws. port ws (λ q ws. all_said ws (p, q)))
+
 abbrev pub cable_of : List (List ℕ) → Result Said Expected
-cable_of ws = port ws (λ p ws. port ws (λ q ws. all_said ws (cable p q)))
+cable_of ws = thus (two_ports_of ws) (λ r. Ok (cable r.0 r.1))
 
 abbrev pub pull_of : List (List ℕ) → Result Said Expected
-pull_of ws = port ws (λ p ws. port ws (λ q ws. all_said ws (pull p q)))
+pull_of ws = thus (two_ports_of ws) (λ r. Ok (pull r.0 r.1))
 
 abbrev pub station_of : List (List ℕ) → Result Said Expected
 station_of ws = name ws (λ n ws. reads address_of expected.Address ws (λ a ws. port ws (λ p ws. all_said ws (station n a p))))
@@ -142,10 +156,10 @@ abbrev pub lose_of : List (List ℕ) → Result Said Expected
 lose_of ws = port ws (λ p ws. reads (number_in 1 1000) expected.Packets ws (λ n ws. all_said ws (lose p n)))
 
 abbrev pub fall_of : List (List ℕ) → Result Said Expected
-fall_of ws = box ws (λ n ws. all_said ws (fall n))
+fall_of ws = thus (one_box_of ws) (λ n. Ok (fall n))
 
 abbrev pub start_of : List (List ℕ) → Result Said Expected
-start_of ws = box ws (λ n ws. all_said ws (start n))
+start_of ws = thus (one_box_of ws) (λ n. Ok (start n))
 
 -- SEQ, a sequence number
 abbrev pub sequence : List (List ℕ) → (ℕ → List (List ℕ) → Result Said Expected) → Result Said Expected
@@ -211,4 +225,4 @@ code_of bs = trimmed_of (take (prefix_len (is_of Code) bs) bs)
 
 -- a line of a script
 abbrev pub command_of : List ℕ → Result Said Expected
-command_of bs = cond (all (is_of Plain) bs) (grammar (words_of (code_of bs)) (text_in (after_of (code_of bs)))) (Err expected.Text)
+command_of bs = cond (list_all (is_of Plain) bs) (grammar (words_of (code_of bs)) (text_in (after_of (code_of bs)))) (Err expected.Text)

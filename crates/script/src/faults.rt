@@ -2,10 +2,11 @@
 ghost use Rattle.std.specs.Prelude.{◌≡◌, Some};
 ghost use Rattle.script.specs.Faults.{words_for};
 
+use std::error::Error;
 use std::fmt;
 
 /// What was expected where a line is at fault, to tell its author.
-#[derive(Clone, Copy, PartialEq, Debug)]
+#[derive(Clone, Copy, PartialEq, Eq, Debug)]
 pub enum Expected {
     Text,
     Command,
@@ -43,6 +44,8 @@ impl fmt::Display for Expected {
         f.write_str(self.words())
     }
 }
+
+impl Error for Expected {}
 
 impl Expected {
     /// The words that say what was expected, as they are printed.

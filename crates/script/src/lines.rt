@@ -1,27 +1,28 @@
 // One line of a script, read into a command.
-ghost use Rattle.std.specs.Prelude.{◌≡◌, ℕ, ◌-◌, ◌≤◌, length, IfOk, Ok, Err, MatchResult};
+ghost use Rattle.std.specs.Prelude.{◌≡◌, ℕ, ◌-◌, ◌≤◌, length, IfOk, Ok, Err, MatchResult, None, Some, MatchOption};
 ghost use Rattle.std.specs.List.{suffix_len};
 ghost use Rattle.scan.specs.Bytes.{between, is_of};
 ghost use Rattle.scan.specs.Words.{after_of, skipped};
 ghost use Rattle.scan.specs.Parts.{number_in, port_of, name_of, address_of, parents_of};
-ghost use Rattle.script.specs.Grammar.{part, tail, ended, told, aimed, aim_of, text_of, text_in, send_of, rest_of, said_by, code_of, command_of, bridge_of, access_of, cable_of, pull_of, station_of, move_of, tick_of, lose_of, fall_of, start_of, tree_of, adopt_of};
+ghost use Rattle.script.specs.Grammar.{IsPart, part, tail, ended, told, aimed, aim_of, text_of, text_in, send_of, said_by, code_of, command_of, bridge_of, access_of, station_of, move_of, tick_of, lose_of, one_box_of, two_ports_of, tree_of, adopt_of};
 ghost use Rattle.scan.specs.Reading.{left, unread};
 
 use crate::faults::Expected;
-use crate::verbs::{Verb, find};
-use scan::bytes::{Kind, all_of, is_of, run, same};
+use crate::verbs::Verb;
+use scan::bytes::{Kind, all_of, is_of, run};
 use scan::parts::{PortRef, address, is_name, number, parents, port};
 use scan::reader::Words;
 
 /// To whom a station sends.
-#[derive(Clone, Copy)]
+// Stays: it has the shape of Option, but None would not say "to all".
+#[derive(Clone, Copy, PartialEq, Eq, Debug)]
 pub enum Target<'a> {
     All,
     Station(&'a [u8]),
 }
 
 /// A command of a script. Names and texts are parts of its line.
-#[derive(Clone, Copy)]
+#[derive(Clone, Copy, PartialEq, Eq, Debug)]
 pub enum Command<'a> {
     Blank,
     Bridge {
@@ -80,6 +81,21 @@ pub enum Command<'a> {
     },
 }
 
+/// Takes the next word, and reads a part of a command from it.
+// Stays: `after` stands again at each reader below, since a definition over value and rest would take the function and the fault as well.
+fn next_part<'a, T, F: FnOnce(&'a [u8]) -> Option<T>>(
+    words: &mut Words<'a>,
+    expected: Expected,
+    read: F,
+) -> Result<T, Expected>
+    requires { F.IsAlwaysCallable read }
+    ensures value { IsPart (F.post read) expected (left words.old) result }
+    ensures after { left words.new ≡ tail (left words.old) }
+    ensures rest { unread words.new ≡ after_of (unread words.old) }
+{
+    words.next().and_then(read).ok_or(expected)
+}
+
 /// Takes a number between two limits.
 fn next_number(
     words: &mut Words<'_>,
@@ -91,10 +107,24 @@ fn next_number(
     ensures bound { IfOk result (λ n. (low ≤ n) × (n ≤ high)) }
     ensures after { left words.new ≡ tail (left words.old) }
 {
-    let Some(word) = words.next() else {
-        return Err(expected);
-    };
-    number(word, low, high).ok_or(expected)
+    next_part(words, expected, |word| number(word, low, high))
+}
+
+/// Takes a box.
+fn next_box(words: &mut Words<'_>) -> Result<u8, Expected>
+    ensures value { result ≡ part (number_in 0 5) Expected.BoxNumber (left words.old) }
+    ensures after { left words.new ≡ tail (left words.old) }
+{
+    let node = next_number(words, 0, 5, Expected::BoxNumber)?;
+    Ok(node as u8)
+}
+
+/// Takes a sequence number.
+fn next_sequence(words: &mut Words<'_>) -> Result<u32, Expected>
+    ensures value { result ≡ part (number_in 1 1000) Expected.Sequence (left words.old) }
+    ensures after { left words.new ≡ tail (left words.old) }
+{
+    next_number(words, 1, 1000, Expected::Sequence)
 }
 
 /// Takes a port.
@@ -102,10 +132,7 @@ fn next_port(words: &mut Words<'_>) -> Result<PortRef, Expected>
     ensures value { result ≡ part port_of Expected.PortName (left words.old) }
     ensures after { left words.new ≡ tail (left words.old) }
 {
-    let Some(word) = words.next() else {
-        return Err(Expected::PortName);
-    };
-    port(word).ok_or(Expected::PortName)
+    next_part(words, Expected::PortName, port)
 }
 
 /// Takes an address.
@@ -113,10 +140,7 @@ fn next_address(words: &mut Words<'_>) -> Result<[u8; 6], Expected>
     ensures value { result ≡ part address_of Expected.Address (left words.old) }
     ensures after { left words.new ≡ tail (left words.old) }
 {
-    let Some(word) = words.next() else {
-        return Err(Expected::Address);
-    };
-    address(word).ok_or(Expected::Address)
+    next_part(words, Expected::Address, address)
 }
 
 /// Takes the box above each box.
@@ -124,10 +148,14 @@ fn next_parents(words: &mut Words<'_>) -> Result<[u8; 6], Expected>
     ensures value { result ≡ part parents_of Expected.Parents (left words.old) }
     ensures after { left words.new ≡ tail (left words.old) }
 {
-    let Some(word) = words.next() else {
-        return Err(Expected::Parents);
-    };
-    parents(word).ok_or(Expected::Parents)
+    next_part(words, Expected::Parents, parents)
+}
+
+/// Reads the name of a station.
+fn name(word: &[u8]) -> Option<&[u8]>
+    ensures { MatchOption result (name_of word.now ≡ None) (λ w. name_of word.now ≡ Some w.now) }
+{
+    is_name(word).then_some(word)
 }
 
 /// Takes the name of a station.
@@ -136,13 +164,16 @@ fn next_name<'a>(words: &mut Words<'a>) -> Result<&'a [u8], Expected>
     ensures after { left words.new ≡ tail (left words.old) }
     ensures rest { unread words.new ≡ after_of (unread words.old) }
 {
-    let Some(word) = words.next() else {
-        return Err(Expected::Name);
-    };
-    if is_name(word) {
-        Ok(word)
-    } else {
-        Err(Expected::Name)
+    next_part(words, Expected::Name, name)
+}
+
+/// Reads the name of a station, or the word for all of them.
+fn aim(word: &[u8]) -> Option<Target<'_>>
+    ensures { MatchOption result (aim_of word.now ≡ None) (λ t. aim_of word.now ≡ Some (aimed t)) }
+{
+    match word {
+        b"all" => Some(Target::All),
+        _ => name(word).map(Target::Station),
     }
 }
 
@@ -151,24 +182,14 @@ fn next_target<'a>(words: &mut Words<'a>) -> Result<Target<'a>, Expected>
     ensures value { MatchResult result (λ t. part aim_of Expected.Name (left words.old) ≡ Ok (aimed t)) (λ e. part aim_of Expected.Name (left words.old) ≡ Err e) }
     ensures rest { unread words.new ≡ after_of (unread words.old) }
 {
-    let Some(word) = words.next() else {
-        return Err(Expected::Name);
-    };
-    if same(word, b"all") {
-        return Ok(Target::All);
-    }
-    if is_name(word) {
-        Ok(Target::Station(word))
-    } else {
-        Err(Expected::Name)
-    }
+    next_part(words, Expected::Name, aim)
 }
 
 /// Says whether a text fits a frame.
 fn is_text(text: &[u8]) -> bool
     ensures { result ≡ between 2 1500 (length text.now) }
 {
-    2 <= text.len() && text.len() <= 1500
+    (2..=1500).contains(&text.len())
 }
 
 /// Takes the rest of the line as a text.
@@ -177,21 +198,33 @@ fn next_text<'a>(words: &mut Words<'a>) -> Result<&'a [u8], Expected>
 {
     words.skip();
     let text = words.rest();
-    if is_text(text) {
-        Ok(text)
-    } else {
-        Err(Expected::Message)
-    }
+    is_text(text).then_some(text).ok_or(Expected::Message)
 }
 
 /// Sees that no word is left.
 fn at_end(words: &mut Words<'_>) -> Result<(), Expected>
     ensures { MatchResult result (λ _. ended (left words.old) ≡ Ok tt) (λ e. ended (left words.old) ≡ Err e) }
 {
-    match words.next() {
-        None => Ok(()),
-        Some(_) => Err(Expected::End),
-    }
+    words.next().is_none().then_some(()).ok_or(Expected::End)
+}
+
+/// Takes the box that is the rest of a command.
+fn one_box(words: &mut Words<'_>) -> Result<u8, Expected>
+    ensures { result ≡ one_box_of (left words.old) }
+{
+    let node = next_box(words)?;
+    at_end(words)?;
+    Ok(node)
+}
+
+/// Takes the two ports that are the rest of a command.
+fn two_ports(words: &mut Words<'_>) -> Result<(PortRef, PortRef), Expected>
+    ensures { result ≡ two_ports_of (left words.old) }
+{
+    let one = next_port(words)?;
+    let other = next_port(words)?;
+    at_end(words)?;
+    Ok((one, other))
 }
 
 fn access<'a>(words: &mut Words<'a>) -> Result<Command<'a>, Expected>
@@ -206,8 +239,9 @@ fn access<'a>(words: &mut Words<'a>) -> Result<Command<'a>, Expected>
 fn bridge<'a>(words: &mut Words<'a>) -> Result<Command<'a>, Expected>
     ensures { told result ≡ bridge_of (left words.old) }
 {
-    let node = next_number(words, 0, 5, Expected::BoxNumber)? as u8;
+    let node = next_box(words)?;
     let ports = next_number(words, 1, 16, Expected::PortCount)? as u8;
+    // Stays: a line that ends here is no fault, so what the reader gives is taken apart by `let .. else`.
     let Some(word) = words.next() else {
         return Ok(Command::Bridge {
             node,
@@ -215,7 +249,7 @@ fn bridge<'a>(words: &mut Words<'a>) -> Result<Command<'a>, Expected>
             number: node,
         });
     };
-    if !same(word, b"as") {
+    if !matches!(word, b"as") {
         return Err(Expected::End);
     }
     let number = next_number(words, 0, 127, Expected::BridgeNumber)? as u8;
@@ -239,24 +273,6 @@ fn station<'a>(words: &mut Words<'a>) -> Result<Command<'a>, Expected>
         address,
         port,
     })
-}
-
-fn cable<'a>(words: &mut Words<'a>) -> Result<Command<'a>, Expected>
-    ensures { told result ≡ cable_of (left words.old) }
-{
-    let one = next_port(words)?;
-    let other = next_port(words)?;
-    at_end(words)?;
-    Ok(Command::Cable { one, other })
-}
-
-fn pull<'a>(words: &mut Words<'a>) -> Result<Command<'a>, Expected>
-    ensures { told result ≡ pull_of (left words.old) }
-{
-    let one = next_port(words)?;
-    let other = next_port(words)?;
-    at_end(words)?;
-    Ok(Command::Pull { one, other })
 }
 
 fn relocate<'a>(words: &mut Words<'a>) -> Result<Command<'a>, Expected>
@@ -294,34 +310,11 @@ fn lose<'a>(words: &mut Words<'a>) -> Result<Command<'a>, Expected>
     Ok(Command::Lose { port, packets })
 }
 
-fn fall<'a>(words: &mut Words<'a>) -> Result<Command<'a>, Expected>
-    ensures { told result ≡ fall_of (left words.old) }
-{
-    let node = next_number(words, 0, 5, Expected::BoxNumber)? as u8;
-    at_end(words)?;
-    Ok(Command::Fall { node })
-}
-
-fn start<'a>(words: &mut Words<'a>) -> Result<Command<'a>, Expected>
-    ensures { told result ≡ start_of (left words.old) }
-{
-    let node = next_number(words, 0, 5, Expected::BoxNumber)? as u8;
-    at_end(words)?;
-    Ok(Command::Start { node })
-}
-
-fn rest<'a>(words: &mut Words<'a>) -> Result<Command<'a>, Expected>
-    ensures { told result ≡ rest_of (left words.old) }
-{
-    at_end(words)?;
-    Ok(Command::Rest)
-}
-
 fn tree<'a>(words: &mut Words<'a>) -> Result<Command<'a>, Expected>
     ensures { told result ≡ tree_of (left words.old) }
 {
-    let seq = next_number(words, 1, 1000, Expected::Sequence)?;
-    let node = next_number(words, 0, 5, Expected::BoxNumber)? as u8;
+    let seq = next_sequence(words)?;
+    let node = next_box(words)?;
     let parents = next_parents(words)?;
     at_end(words)?;
     Ok(Command::Tree { seq, node, parents })
@@ -330,8 +323,8 @@ fn tree<'a>(words: &mut Words<'a>) -> Result<Command<'a>, Expected>
 fn adopt<'a>(words: &mut Words<'a>) -> Result<Command<'a>, Expected>
     ensures { told result ≡ adopt_of (left words.old) }
 {
-    let node = next_number(words, 0, 5, Expected::BoxNumber)? as u8;
-    let seq = next_number(words, 1, 1000, Expected::Sequence)?;
+    let node = next_box(words)?;
+    let seq = next_sequence(words)?;
     at_end(words)?;
     Ok(Command::Adopt { node, seq })
 }
@@ -340,43 +333,40 @@ fn adopt<'a>(words: &mut Words<'a>) -> Result<Command<'a>, Expected>
 fn read_command<'a>(verb: Verb, words: &mut Words<'a>) -> Result<Command<'a>, Expected>
     ensures { told result ≡ said_by verb (left words.old) (text_in (unread words.old)) }
 {
+    // Stays: a table of functions would need one contract for all, which is `said_by verb` again.
     match verb {
         Verb::Bridge => bridge(words),
         Verb::Access => access(words),
-        Verb::Cable => cable(words),
-        Verb::Pull => pull(words),
+        Verb::Cable => two_ports(words).map(|(one, other)| Command::Cable { one, other }),
+        Verb::Pull => two_ports(words).map(|(one, other)| Command::Pull { one, other }),
         Verb::Station => station(words),
         Verb::Move => relocate(words),
         Verb::Send => send(words),
         Verb::Tick => tick(words),
         Verb::Lose => lose(words),
-        Verb::Fall => fall(words),
-        Verb::Start => start(words),
-        Verb::Rest => rest(words),
+        Verb::Fall => one_box(words).map(|node| Command::Fall { node }),
+        Verb::Start => one_box(words).map(|node| Command::Start { node }),
+        Verb::Rest => at_end(words).map(|()| Command::Rest),
         Verb::Tree => tree(words),
         Verb::Adopt => adopt(words),
     }
 }
 
-/// How long a line is without the blanks at its end, which are no part of a text.
-fn trimmed_len(bytes: &[u8]) -> usize
-    ensures value { result ≡ length bytes.now - suffix_len (is_of Kind.Blank) bytes.now }
+/// How many bytes at the end are blanks.
+fn blanks_at_end(bytes: &[u8]) -> usize
+    ensures value { result ≡ suffix_len (is_of Kind.Blank) bytes.now }
     ensures within { result ≤ length bytes.now }
 {
-    let mut n = bytes.len();
-    while 0 < n && is_of(Kind::Blank, bytes[n - 1]) {
-        n -= 1;
-    }
-    n
+    let from_end = bytes.iter().rev();
+    from_end.take_while(|b| is_of(Kind::Blank, **b)).count()
 }
 
-/// A line without its comment.
+/// A line without its comment, and without the blanks at its end, which are no part of a text.
 fn code(line: &[u8]) -> &[u8]
     ensures { result.now ≡ code_of line.now }
 {
-    let (before, _) = line.split_at(run(line, Kind::Code));
-    let (trimmed, _) = before.split_at(trimmed_len(before));
-    trimmed
+    let before = &line[..run(line, Kind::Code)];
+    &before[..before.len() - blanks_at_end(before)]
 }
 
 /// Reads a line: the command that it gives, or what was expected where it is at fault.
@@ -387,11 +377,9 @@ pub fn read_line(line: &[u8]) -> Result<Command<'_>, Expected>
         return Err(Expected::Text);
     }
     let mut words = Words::new(code(line));
+    // Stays: an empty line is no fault, so what the reader gives is taken apart by `let .. else`.
     let Some(word) = words.next() else {
         return Ok(Command::Blank);
     };
-    let Some(verb) = find(word) else {
-        return Err(Expected::Command);
-    };
-    read_command(verb, &mut words)
+    read_command(Verb::try_from(word)?, &mut words)
 }

@@ -1,11 +1,12 @@
 // The word that begins a command.
 ghost use Rattle.std.specs.Prelude.{◌≡◌};
+ghost use Rattle.std.specs.Option.{ok_or};
 ghost use Rattle.script.specs.Verbs.{verb_of};
 
-use scan::bytes::same;
+use crate::faults::Expected;
 
 /// The commands by their first word.
-#[derive(Clone, Copy)]
+#[derive(Clone, Copy, PartialEq, Eq, Debug)]
 pub enum Verb {
     Bridge,
     Access,
@@ -23,51 +24,31 @@ pub enum Verb {
     Adopt,
 }
 
-/// Finds the command that a word begins.
-pub fn find(word: &[u8]) -> Option<Verb>
-    ensures { result ≡ verb_of word.now }
-{
-    if same(word, b"bridge") {
-        return Some(Verb::Bridge);
+impl TryFrom<&[u8]> for Verb {
+    type Error = Expected;
+
+    ghost use Rattle.script.specs.declared.faults.Expected.{Expected};
+
+    ghost try_from_gives = { λ word result. result ≡ ok_or (verb_of word.now) Expected.Command };
+
+    /// Finds the command that a word begins.
+    fn try_from(word: &[u8]) -> Result<Verb, Expected> {
+        match word {
+            b"bridge" => Ok(Verb::Bridge),
+            b"access" => Ok(Verb::Access),
+            b"cable" => Ok(Verb::Cable),
+            b"pull" => Ok(Verb::Pull),
+            b"station" => Ok(Verb::Station),
+            b"move" => Ok(Verb::Move),
+            b"send" => Ok(Verb::Send),
+            b"tick" => Ok(Verb::Tick),
+            b"lose" => Ok(Verb::Lose),
+            b"fall" => Ok(Verb::Fall),
+            b"start" => Ok(Verb::Start),
+            b"rest" => Ok(Verb::Rest),
+            b"tree" => Ok(Verb::Tree),
+            b"adopt" => Ok(Verb::Adopt),
+            _ => Err(Expected::Command),
+        }
     }
-    if same(word, b"access") {
-        return Some(Verb::Access);
-    }
-    if same(word, b"cable") {
-        return Some(Verb::Cable);
-    }
-    if same(word, b"pull") {
-        return Some(Verb::Pull);
-    }
-    if same(word, b"station") {
-        return Some(Verb::Station);
-    }
-    if same(word, b"move") {
-        return Some(Verb::Move);
-    }
-    if same(word, b"send") {
-        return Some(Verb::Send);
-    }
-    if same(word, b"tick") {
-        return Some(Verb::Tick);
-    }
-    if same(word, b"lose") {
-        return Some(Verb::Lose);
-    }
-    if same(word, b"fall") {
-        return Some(Verb::Fall);
-    }
-    if same(word, b"start") {
-        return Some(Verb::Start);
-    }
-    if same(word, b"rest") {
-        return Some(Verb::Rest);
-    }
-    if same(word, b"tree") {
-        return Some(Verb::Tree);
-    }
-    if same(word, b"adopt") {
-        return Some(Verb::Adopt);
-    }
-    None
 }

@@ -1,5 +1,5 @@
 -- What a script may do to boxes, ports and cables.
-use Rattle.std.specs.Prelude.{◌≡◌, ℕ, Bool, false, cond, ◌&&◌, List, Ok, Err, Result, ◌==◌, nat_lt}
+use Rattle.std.specs.Prelude.{◌≡◌, ℕ, Bool, true, false, cond, ◌&&◌, List, Ok, Err, Result, ◌==◌, nat_lt}
 use Rattle.scan.specs.declared.parts.PortRef.{PortRef}
 use Rattle.script.specs.declared.faults.Expected.{Expected}
 use Rattle.script.specs.declared.faults.Expected.TheVariants as expected
@@ -73,18 +73,19 @@ pulled ns p q =
     thus (want_there (port_at ns p)) (λ _. thus (want_there (port_at ns q)) (λ _.
     cond (cabled_to (port_at ns p) q) (Ok (with_port (with_port ns p port.Free) q port.Free)) (Err expected.CableThere)))
 
-abbrev pub fallen_from : Power → Result (List Node) Expected → Result (List Node) Expected
-fallen_from power.Absent x = Err expected.BoxThere
-fallen_from power.On x = x
-fallen_from power.Off x = Err expected.BoxOn
+abbrev pub is_same : Power → Power → Bool
+is_same power.Absent power.Absent = true
+is_same power.On power.On = true
+is_same power.Off power.Off = true
+is_same _ _ = false
+
+-- a box that is there is switched over, unless it stands so already
+abbrev pub turned : List Node → ℕ → Power → Expected → Result (List Node) Expected
+turned ns n to already =
+    thus (want_box (power_at ns n)) (λ _. cond (is_same (power_at ns n) to) (Err already) (Ok (with_power ns n to)))
 
 abbrev pub fallen : List Node → ℕ → Result (List Node) Expected
-fallen ns n = fallen_from (power_at ns n) (Ok (with_power ns n power.Off))
-
-abbrev pub started_from : Power → Result (List Node) Expected → Result (List Node) Expected
-started_from power.Absent x = Err expected.BoxThere
-started_from power.On x = Err expected.BoxOff
-started_from power.Off x = x
+fallen ns n = turned ns n power.Off expected.BoxOn
 
 abbrev pub started : List Node → ℕ → Result (List Node) Expected
-started ns n = started_from (power_at ns n) (Ok (with_power ns n power.On))
+started ns n = turned ns n power.On expected.BoxOff

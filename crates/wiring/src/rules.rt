@@ -1,18 +1,11 @@
 // What a script may do to boxes, ports and cables, and what it may not.
 ghost use Rattle.std.specs.Prelude.{◌≡◌};
 ghost use Rattle.wiring.specs.Boxes.{power_at, port_at};
-ghost use Rattle.wiring.specs.Rules.{Did, same_port, want_there, want_box, want_free, want_access, cabled_to, box_added, access_set, cabled, pulled, fallen, started};
+ghost use Rattle.wiring.specs.Rules.{Did, want_there, want_box, want_free, want_access, box_added, access_set, cabled, pulled, turned, fallen, started};
 
-use crate::boxes::{Port, Power, Wiring};
+use crate::boxes::{BOXES, Port, Power, Wiring};
 use scan::parts::PortRef;
 use script::faults::Expected;
-
-/// Says whether two words name one port.
-fn same_port(a: PortRef, b: PortRef) -> bool
-    ensures { result ≡ same_port a b }
-{
-    a.node == b.node && a.port == b.port
-}
 
 /// Refuses a port that isn't there.
 pub fn want_there(port: Port) -> Result<(), Expected>
@@ -56,31 +49,19 @@ pub fn want_access(port: Port) -> Result<(), Expected>
     }
 }
 
-/// Says whether a port is cabled to another.
-fn is_cabled(port: Port, to: PortRef) -> bool
-    ensures { result ≡ cabled_to port to }
-{
-    match port {
-        Port::Cabled(other) => same_port(other, to),
-        _ => false,
-    }
-}
-
 impl Wiring {
     /// Adds a box that isn't there yet.
     pub fn add_box(&mut self, node: u8, ports: u8, number: u8) -> Result<(), Expected>
         ensures { Did (box_added self.old.nodes node ports number) result self.old.nodes self.new.nodes }
     {
-        if node > 5 {
+        if usize::from(node) >= BOXES {
             return Err(Expected::BoxNumber);
         }
-        match self.power(node) {
-            Power::Absent => {
-                self.set_box(node, ports, number);
-                Ok(())
-            }
-            _ => Err(Expected::NewBox),
+        if self.power(node) != Power::Absent {
+            return Err(Expected::NewBox);
         }
+        self.set_box(node, ports, number);
+        Ok(())
     }
 
     /// Makes a free port an access port of a VLAN.
@@ -98,7 +79,7 @@ impl Wiring {
     {
         want_free(self.port(one))?;
         want_free(self.port(other))?;
-        if same_port(one, other) {
+        if one == other {
             return Err(Expected::FreePort);
         }
         self.set_port(one, Port::Cabled(other));
@@ -112,7 +93,7 @@ impl Wiring {
     {
         want_there(self.port(one))?;
         want_there(self.port(other))?;
-        if !is_cabled(self.port(one), other) {
+        if self.port(one) != Port::Cabled(other) {
             return Err(Expected::CableThere);
         }
         self.set_port(one, Port::Free);
@@ -124,27 +105,26 @@ impl Wiring {
     pub fn fall(&mut self, node: u8) -> Result<(), Expected>
         ensures { Did (fallen self.old.nodes node) result self.old.nodes self.new.nodes }
     {
-        match self.power(node) {
-            Power::Absent => Err(Expected::BoxThere),
-            Power::Off => Err(Expected::BoxOn),
-            Power::On => {
-                self.set_power(node, Power::Off);
-                Ok(())
-            }
-        }
+        self.switch(node, Power::Off, Expected::BoxOn)
     }
 
     /// Switches a box on again.
     pub fn start(&mut self, node: u8) -> Result<(), Expected>
         ensures { Did (started self.old.nodes node) result self.old.nodes self.new.nodes }
     {
-        match self.power(node) {
-            Power::Absent => Err(Expected::BoxThere),
-            Power::On => Err(Expected::BoxOff),
-            Power::Off => {
-                self.set_power(node, Power::On);
-                Ok(())
-            }
+        self.switch(node, Power::On, Expected::BoxOff)
+    }
+
+    /// Switches a box over, and refuses one that stands so already.
+    fn switch(&mut self, node: u8, to: Power, already: Expected) -> Result<(), Expected>
+        ensures { Did (turned self.old.nodes node to already) result self.old.nodes self.new.nodes }
+    {
+        let power = self.power(node);
+        want_box(power)?;
+        if power == to {
+            return Err(already);
         }
+        self.set_power(node, to);
+        Ok(())
     }
 }

@@ -1,27 +1,30 @@
-use Rattle.std.proofs.Common.{◌-◌, sym, ap, ◌∙◌, arith, rules}
-use Rattle.scan.proofs.Numbers.{over, no_digits, too_high, too_low, in-range, step, all_read}
+use Rattle.std.proofs.Common.{refl, ◌∙◌, arith, rules}
+use Rattle.std.proofs.lemmas.Bool.Decides.{nat_tests}
+use Rattle.scan.specs.Parts.{number_in}
+use Rattle.scan.proofs.Numbers.{empty, no_digit, over, all_read}
 use Rattle.scan.proofs.parts.number.Goals as goal
 
-pub returns-then-not-is_digits : goal.returns-then-not-is_digits
-returns-then-not-is_digits c = record { value = no_digits _ _ _ (sym c.if-not-is_digits.ensures); bound = tt }
+pub returns-then-is_empty : goal.returns-then-is_empty
+returns-then-is_empty c = record { value = empty _ _ _ (search rules); bound = tt }
 
-pub returns-then-value-from : goal.returns-then-value-from
-returns-then-value-from c =
-    let digit = c.saturating_sub.ensures ∙ ap (λ x. x - 48) c.from.ensures in
-    record { value = too_high _ _ _ (over c.args.word.now c.loop-b.b-index c.loop-b.value c.saturating_sub.result _ c.loop-b-test.true digit c.loop-b.invariant.1 (omega arith)); bound = tt }
+pub returns-in_err-digit-clause-value : goal.returns-in_err-digit-clause-value
+returns-in_err-digit-clause-value c =
+    let l = c.loop-b in
+    c.from_residual.ensures ∙ no_digit _ _ _ l.b-index l.value l.invariant.value l.invariant.digits c.loop-b-test.true (λ a b. omega (arith, c.in_err-digit.ensures.cases (omega arith) (omega arith)))
 
-pub loop-b-preserved : goal.loop-b-preserved
-loop-b-preserved c = (
-  search rules,
-  step c.args.word.now c.loop-b.b-index c.loop-b.value c.saturating_sub.result c.loop-b-test.true (c.saturating_sub.ensures ∙ ap (λ x. x - 48) c.from.ensures) ∙ c.loop-b.invariant.1,
-)
+pub returns-in_err-checked_mul-clause-value : goal.returns-in_err-checked_mul-clause-value
+returns-in_err-checked_mul-clause-value c =
+    let l = c.loop-b in
+    c.from_residual-in_err-checked_mul.ensures ∙ over _ _ _ l.b-index l.value l.invariant.value l.invariant.digits _ c.loop-b-test.true refl (omega (arith, c.in_err-checked_mul.ensures))
 
-pub returns-then-value-from-2 : goal.returns-then-value-from-2
-returns-then-value-from-2 c =
-    let is = all_read c.args.word.now c.loop-b.b-index c.loop-b.value c.loop-b-test.false c.loop-b.invariant.1 in
-    record { value = too_low _ _ _ (omega arith); bound = tt }
+pub returns-in_err-value-clause-value : goal.returns-in_err-value-clause-value
+returns-in_err-value-clause-value c =
+    let l = c.loop-b in
+    c.from_residual-in_err-value.ensures ∙ over _ _ _ l.b-index l.value l.invariant.value l.invariant.digits c.in_ok-digit.digit c.loop-b-test.true (search rules) (omega (arith, c.in_err-value.ensures))
 
-pub returns-else-value-from-2 : goal.returns-else-value-from-2
-returns-else-value-from-2 c =
-    let is = all_read c.args.word.now c.loop-b.b-index c.loop-b.value c.loop-b-test.false c.loop-b.invariant.1 in
-    record { value = in-range _ _ _ _ (sym c.if-not-is_digits.ensures) is (omega arith) (omega arith); bound = search rules }
+pub returns-clause-value : goal.returns-clause-value
+unfolding number_in
+returns-clause-value c =
+    let l = c.loop-b in
+    let read = all_read c.args.low c.args.high c.args.word.now l.b-index l.value l.invariant.value l.invariant.digits c.loop-b-test.false (grind (arith, nat_tests)) in
+    grind (arith, nat_tests)

@@ -1,8 +1,5 @@
-use Rattle.script.proofs.Taking.{ended-none, ended_some}
+use Rattle.script.proofs.Taking.{ending}
 use Rattle.script.proofs.lines.at_end.Goals as goal
 
-pub returns-in-None : goal.returns-in-None
-returns-in-None c = ended-none c.in-None.ensures.cases.0
-
-pub returns-in-Some : goal.returns-in-Some
-returns-in-Some c = ended_some c.in-Some.ensures.cases
+pub returns : goal.returns
+returns c = ending _ _ c.next.result _ _ _ c.next.ensures.cases c.is_none.ensures c.then_some.ensures c.ok_or.ensures.value

@@ -1,10 +1,9 @@
-use Rattle.std.proofs.Common.{sym}
+use Rattle.std.proofs.Common.{rules}
 use Rattle.scan.specs.Parts.{number_in}
-use Rattle.script.proofs.Taking.{part_none, part-some, tail_none, tail-some, ok_bound}
+use Rattle.script.proofs.Taking.{part-is, part-bound}
 use Rattle.script.proofs.lines.next_number.Goals as goal
 
-pub returns-in_default : goal.returns-in_default
-returns-in_default c = record { value = sym (part_none (number_in c.args.low c.args.high) c.args.expected c.in_default.ensures.cases.0); bound = tt; after = tail_none c.in_default.ensures.cases.0 c.in_default.ensures.cases.1 }
-
 pub returns : goal.returns
-returns c = record { value = part-some (number_in c.args.low c.args.high) c.args.expected c.in-Some.ensures.cases c.number.ensures.value c.ok_or.ensures.value; bound = ok_bound _ _ c.number.result c.number.ensures.bound c.ok_or.ensures.value; after = tail-some c.in-Some.ensures.cases }
+returns c =
+    let is = part-is _ c.args.expected (number_in c.args.low c.args.high) _ c.next_part.result (λ b o h. search rules) c.next_part.ensures.value in
+    record { value = is; bound = part-bound c.args.low c.args.high _ _ _ is; after = c.next_part.ensures.after }

@@ -1,9 +1,8 @@
-use Rattle.std.proofs.Common.{sym}
-use Rattle.script.proofs.Taking.{text_yes, text_no}
+use Rattle.std.proofs.Common.{ap, ◌∙◌}
+use Rattle.std.specs.Option.{ok_or}
+use Rattle.script.specs.declared.faults.Expected.TheVariants as expected
+use Rattle.script.proofs.Taking.{text-is}
 use Rattle.script.proofs.lines.next_text.Goals as goal
 
-pub returns-then-is_text : goal.returns-then-is_text
-returns-then-is_text c = text_yes _ _ _ c.rest-text.ensures c.skip.ensures (sym c.if-is_text.ensures)
-
-pub returns-else-is_text : goal.returns-else-is_text
-returns-else-is_text c = text_no _ _ _ c.rest-text.ensures c.skip.ensures (sym c.if-is_text.ensures)
+pub returns : goal.returns
+returns c = text-is c.rest-text.result _ _ c.ok_or.result (c.rest-text.ensures ∙ c.skip.ensures) c.is_text.ensures (c.ok_or.ensures.value ∙ ap (λ o. ok_or o expected.Message) c.then_some.ensures)

@@ -1,14 +1,9 @@
-use Rattle.std.proofs.Common.{◌≡◌, ◌-◌, min, ◌++◌, set, replicate, ap, ◌∙◌, arith}
+use Rattle.std.proofs.Common.{rules, tests}
 use Rattle.wiring.specs.declared.boxes.Port.TheVariants as port
 use Rattle.wiring.specs.Boxes.{ports_of}
-use Rattle.wiring.proofs.Filling.{one_more}
+use Rattle.wiring.proofs.Filling.{two_parts}
 use Rattle.wiring.proofs.boxes.free_ports.Goals as goal
-
-pub loop-i-preserved : goal.loop-i-preserved
-loop-i-preserved c = ap (λ ps. set ps c.loop-i.i port.Free) c.loop-i.invariant ∙ one_more port.Free port.Absent c.loop-i.i 16 (omega arith)
 
 pub returns : goal.returns
 unfolding ports_of
-returns c =
-    let all : c.loop-i.i ≡ min c.args.count 16 = omega arith in
-    c.loop-i.invariant ∙ ap (λ n. replicate n port.Free ++ replicate (16 - n) port.Absent) all
+returns c = two_parts port.Free port.Absent c.args.count 16 (λ i y q k. search (rules, tests)) c.from_fn.result c.from_fn.ensures.items

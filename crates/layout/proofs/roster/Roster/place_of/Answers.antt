@@ -1,18 +1,12 @@
-use Rattle.std.proofs.Common.{map, sym, ap, ◌∙◌, arith}
-use Rattle.std.proofs.lemmas.Bool.{lt-ltb, le-ltb}
-use Rattle.layout.specs.Stations.{name_index, placed}
+use Rattle.std.proofs.Common.{vec_items, rules, tests}
+use Rattle.std.proofs.lemmas.Iterator.{YieldsList-from_slice}
+use Rattle.std.proofs.lemmas.Iterator.Search.{position_from_yields_List}
+use Rattle.std.specs.Str.{bytes_eq}
+use Rattle.layout.specs.Stations.{text_of}
 use Rattle.layout.proofs.Finding.{found}
 use Rattle.layout.proofs.roster.Roster.place_of.Goals as goal
 
-pub returns-then-i-len : goal.returns-then-i-len
-returns-then-i-len c =
-    let e = found c.args.self.now.list (name_index c.args.name.now) _ _ _ c.find_name-i.ensures.value c.as_slice.ensures.value c.len.ensures in (
-      sym e ∙ lt-ltb _ _ c.if-i-len.true,
-      c.find_name-i.ensures.value ∙ ap (λ ss. name_index c.args.name.now (map placed ss)) c.as_slice.ensures.value,
-      omega arith,
-    )
-
-pub returns-else-i-len : goal.returns-else-i-len
-returns-else-i-len c =
-    let e = found c.args.self.now.list (name_index c.args.name.now) _ _ _ c.find_name-i.ensures.value c.as_slice.ensures.value c.len.ensures in
-    sym e ∙ le-ltb _ _ c.if-i-len.false
+pub returns : goal.returns
+returns c =
+    found c.args.name.now c.args.self.now.list c.position.result
+    (position_from_yields_List (λ s. bytes_eq (text_of s.name) c.args.name.now) _ _ c.position.result c.position.ensures.ran (YieldsList-from_slice (vec_items c.args.self.now.list) cc) (λ x b q k. search (rules, tests)))
