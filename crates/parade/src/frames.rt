@@ -1,8 +1,11 @@
 // Sends a frame, and prints where it came and who got it.
+ghost use Rattle.std.specs.Prelude.{◌≡◌, ◌≢◌, ◌⊎◌, ◌↔◌, IsTrue};
+ghost use Rattle.std.specs.List.{list_any};
+ghost use Rattle.scenario.specs.Travel.{went_by};
+
 use layout::net::Layout;
 use layout::stations::Station;
-use scan::bytes::same;
-use scenario::{Outcome, Player, Step, heard_at};
+use scenario::{Player, Step, heard_at};
 use script::lines::Target;
 use std::io;
 use std::str::from_utf8;
@@ -12,23 +15,18 @@ const ALL: [u8; 6] = [255; 6];
 
 /// The station with a name.
 fn station_named(layout: &Layout, name: &[u8]) -> Option<Station> {
-    for station in layout.roster().stations() {
-        if same(station.name.text(), name) {
-            return Some(*station);
-        }
-    }
-    None
+    let stations = layout.roster().stations();
+    stations
+        .iter()
+        .find(|station| station.name.text() == name)
+        .copied()
 }
 
 /// The address to which a frame goes.
 fn address_of(layout: &Layout, to: Target<'_>) -> Option<[u8; 6]> {
     match to {
         Target::All => Some(ALL),
-        Target::Station(name) => {
-            let station = station_named(layout, name)?;
-            let address = station.address;
-            Some(address)
-        }
+        Target::Station(name) => station_named(layout, name).map(|station| station.address),
     }
 }
 
@@ -36,13 +34,8 @@ fn address_of(layout: &Layout, to: Target<'_>) -> Option<[u8; 6]> {
 fn target_name<'a>(to: Target<'a>) -> &'a str {
     match to {
         Target::All => "all",
-        Target::Station(name) => text(name),
+        Target::Station(name) => from_utf8(name).unwrap_or("?"),
     }
-}
-
-/// A name as it is printed.
-fn text(name: &[u8]) -> &str {
-    from_utf8(name).unwrap_or("?")
 }
 
 /// Prints the boxes to which copies came, and where they were dropped.
@@ -53,26 +46,26 @@ fn print_steps(rt: &HostRuntime, steps: &[Step]) -> io::Result<()> {
     }
     for step in steps {
         let node = step.node;
-        if let Outcome::Went(_) = step.outcome {
+        if step.outcome.is_ok() {
             print!(rt; " {node}")?;
         }
     }
     for step in steps {
         let node = step.node;
-        if let Outcome::Dropped(fault) = step.outcome {
-            let number = fault.number();
-            print!(rt; ", dropped at {node} with {number}")?;
+        if let Err(fault) = step.outcome {
+            print!(rt; ", dropped at {node} with {fault}")?;
         }
     }
     Ok(())
 }
 
 /// Says whether a station gets a frame: it is for the station or for all, and went out by the station's port.
-fn gets(steps: &[Step], station: &Station, from: &Station, to: [u8; 6]) -> bool {
-    if same(&station.address, &from.address) {
-        return false;
-    }
-    (same(&to, &ALL) || same(&to, &station.address)) && heard_at(steps, station.port)
+fn gets(steps: &[Step], station: &Station, from: &Station, to: [u8; 6]) -> bool
+    ensures { IsTrue result ↔ ((station.now.address ≢ from.now.address) × ((to ≡ ALL) ⊎ (to ≡ station.now.address)) × IsTrue (list_any (went_by station.now.port) steps.now)) }
+{
+    station.address != from.address
+        && (to == ALL || to == station.address)
+        && heard_at(steps, station.port)
 }
 
 /// Prints the stations that get a frame.
@@ -84,16 +77,17 @@ fn print_audience(
     to: [u8; 6],
 ) -> io::Result<()> {
     print!(rt; ", got by")?;
-    let mut nobody = true;
-    for station in layout.roster().stations() {
-        if gets(steps, station, from, to) {
-            nobody = false;
-            let name = text(station.name.text());
-            print!(rt; " {name}")?;
-        }
-    }
-    if nobody {
+    let stations = layout.roster().stations();
+    let mut audience = stations
+        .iter()
+        .filter(|station| gets(steps, station, from, to))
+        .peekable();
+    if audience.peek().is_none() {
         print!(rt; " nobody")?;
+    }
+    for station in audience {
+        let name = station.name;
+        print!(rt; " {name}")?;
     }
     println!(rt; "")
 }
@@ -107,13 +101,11 @@ pub fn send(
     to: Target<'_>,
     frame: u64,
 ) -> io::Result<()> {
-    let Some(sender) = station_named(layout, from) else {
+    // Stays: where a name stands for no station nothing is sent or printed, and that is no fault.
+    let (Some(sender), Some(address)) = (station_named(layout, from), address_of(layout, to)) else {
         return Ok(());
     };
-    let Some(address) = address_of(layout, to) else {
-        return Ok(());
-    };
-    let sender_name = text(from);
+    let sender_name = sender.name;
     let name = target_name(to);
     print!(rt; "frame {frame}: {sender_name} to {name}:")?;
     let own = sender.address;
@@ -122,9 +114,6 @@ pub fn send(
             print_steps(rt, steps.as_slice())?;
             print_audience(rt, layout, steps.as_slice(), &sender, address)
         }
-        Err(fault) => {
-            let number = fault.number();
-            println!(rt; " fault {number}")
-        }
+        Err(fault) => println!(rt; " fault {fault}"),
     }
 }

@@ -6,27 +6,29 @@ use scenario::{Player, Refusal};
 use script::lines::Command;
 use std::io;
 
-/// Prints that a command was refused.
-fn print_refusal(
-    rt: &HostRuntime,
-    line: u64,
-    word: &str,
-    seq: u32,
-    refusal: Refusal,
-) -> io::Result<()> {
-    let number = refusal.number();
-    println!(rt; "line {line}: {word} {seq}: fault {number}")
-}
-
 /// Asks whether the net rests, and prints the answer.
 fn rest(rt: &HostRuntime, layout: &Layout, player: &Player) -> io::Result<()> {
     match player.rest(&layout.wiring()) {
         Some(tree) => {
             let seq = tree.id().seq();
-            let announcer = tree.id().announcer().value();
+            let announcer = tree.id().announcer();
             println!(rt; "rests along tree {seq} of {announcer}")
         }
         None => println!(rt; "does not rest"),
+    }
+}
+
+/// Prints why a tree was not announced or adopted, if it was not.
+fn print_refused(
+    rt: &HostRuntime,
+    line: u64,
+    step: &str,
+    seq: u32,
+    refused: Option<Refusal>,
+) -> io::Result<()> {
+    match refused {
+        Some(refusal) => println!(rt; "line {line}: {step} {seq}: fault {refusal}"),
+        None => Ok(()),
     }
 }
 
@@ -41,49 +43,34 @@ fn play_command(
 ) -> io::Result<()> {
     let wiring = layout.wiring();
     player.prepare(rt.alloc(), &wiring)?;
+    // Stays: a match on the kinds of commands.
     match command {
-        Command::Access { port, .. } => {
-            player.renew(port.node);
-            Ok(())
+        Command::Access { port, .. } => player.renew(port.node),
+        Command::Start { node } => player.renew(node),
+        Command::Fall { node } => player.fall(node),
+        Command::Tick { ticks } => player.tick(ticks),
+        Command::Lose { port, packets } => player.lose(port, packets),
+        Command::Tree { seq, node, parents } => {
+            let refused = player.announce(&wiring, seq, node, &parents).err();
+            print_refused(rt, line, "tree", seq, refused)?;
         }
-        Command::Start { node } => {
-            player.renew(node);
-            Ok(())
+        Command::Adopt { node, seq } => {
+            let refused = player.adopt(&wiring, node, seq).err();
+            print_refused(rt, line, "adopt", seq, refused)?;
         }
-        Command::Fall { node } => {
-            player.fall(node);
-            Ok(())
-        }
-        Command::Tick { ticks } => {
-            player.tick(ticks);
-            Ok(())
-        }
-        Command::Lose { port, packets } => {
-            player.lose(port, packets);
-            Ok(())
-        }
-        Command::Tree { seq, node, parents } => match player.announce(
-            &wiring, seq, node, &parents,
-        ) {
-            Ok(_) => Ok(()),
-            Err(refusal) => print_refusal(rt, line, "tree", seq, refusal),
-        },
-        Command::Adopt { node, seq } => match player.adopt(&wiring, node, seq) {
-            Ok(()) => Ok(()),
-            Err(refusal) => print_refusal(rt, line, "adopt", seq, refusal),
-        },
         Command::Send { from, to, .. } => {
             *frames = frames.saturating_add(1);
-            send(rt, layout, player, from, to, *frames)
+            send(rt, layout, player, from, to, *frames)?;
         }
-        Command::Rest => rest(rt, layout, player),
+        Command::Rest => rest(rt, layout, player)?,
         Command::Blank
         | Command::Bridge { .. }
         | Command::Cable { .. }
         | Command::Pull { .. }
         | Command::Station { .. }
-        | Command::Move { .. } => Ok(()),
+        | Command::Move { .. } => {}
     }
+    Ok(())
 }
 
 /// Plays a script to its end or its first fault.

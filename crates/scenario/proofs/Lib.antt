@@ -1,2 +1,3 @@
-mod Hanging
+mod Each
 mod Steps
+pub mod Folds

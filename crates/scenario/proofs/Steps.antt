@@ -1,19 +1,11 @@
 -- What is counted up by a loop, one step further.
-use Rattle.std.proofs.Common.{◌≡◌, ℕ, ◌+◌, List, get_or, set, replicate, None, Option, sym, refl, ap, ◌∙◌, add-one}
+use Rattle.std.proofs.Common.{◌≡◌, ℕ, ◌+◌, List, get_or, None, Option, sym, refl, ap, ◌∙◌, add-one}
 use Rattle.wiring.specs.declared.boxes.Node.{Node}
 use Rattle.ports.specs.declared.port.Link.{Link}
 use Rattle.forwarding.specs.State.{State}
 use Rattle.forwarding.specs.Replies.{relinked}
-use Rattle.scenario.specs.Plans.{above_box, rises, up_from, depth_of, own_row, spread_one, spread}
+use Rattle.scenario.specs.Plans.{above_box, rises, up_from, depth_of, spread_one, spread}
 use Rattle.scenario.specs.Links.{relinked_all}
-
-pub own_none : own_row 0 ≡ replicate 128 0
-unfolding own_row
-own_none = refl
-
-pub own_more : (b : ℕ) → own_row (b + 1) ≡ set (own_row b) b b
-unfolding own_row
-own_more b = ap own_row (add-one b)
 
 pub spread_none : (ns : List Node) (vs row : List ℕ) → spread 0 ns vs row ≡ row
 unfolding spread

@@ -1,5 +1,6 @@
 -- The bridges in the boxes.
-use Rattle.std.specs.Prelude.{◌≡◌, ℕ, zero, suc, ◌<◌, ◌≤◌, Bool, true, false, cond, ◌&&◌, List, length, Some, None, Option, ◌==◌, nat_lt, slice_index_or}
+use Rattle.std.specs.Prelude.{◌≡◌, ℕ, ◌<◌, ◌≤◌, Bool, true, false, cond, ◌&&◌, List, length, Some, None, Option, ◌==◌, nat_lt, slice_index_or}
+use Rattle.std.specs.List.{range_with_len, list_all}
 use Rattle.wiring.specs.declared.boxes.Node.{Node}
 use Rattle.wiring.specs.Boxes.{number_at}
 use Rattle.ports.specs.Ports.{ports_of}
@@ -23,7 +24,7 @@ newest_at bs n = cond (nat_lt n (length bs)) (newest_in (state_in (slot_at bs n)
 abbrev pub Began : List Node → ℕ → Option Bridge → Type 0
 Began ns n None = (on_at ns n && nat_lt (number_at ns n) 128) ≡ false
 Began ns n (Some b) =
-    (on_at ns n ≡ true) × (b.id.value ≡ number_at ns n) × ((p : ℕ) → p < 16 → ports_of b.ports p ≡ start_kind ns (at_port n p))
+    (on_at ns n ≡ true) × (b.chassis.id.value ≡ number_at ns n) × ((p : ℕ) → p < 16 → ports_of b.chassis.ports p ≡ start_kind ns (at_port n p))
     × ((state_of b).newest ≡ no_slot) × ((state_of b).older ≡ no_slot)
 
 -- a bridge, if there is one, is told of the links of its box
@@ -53,6 +54,6 @@ is_number q (Some k) = k == q
 abbrev pub holds_newest : List (Option Bridge) → List Node → ℕ → ℕ → Bool
 holds_newest bs ns q n = cond (on_at ns n) (is_number q (newest_at bs n)) true
 
+-- each of the first k boxes that is on has it
 unfoldable pub all_hold : ℕ → List (Option Bridge) → List Node → ℕ → Bool
-all_hold zero bs ns q = true
-all_hold (suc n) bs ns q = all_hold n bs ns q && holds_newest bs ns q n
+all_hold k bs ns q = list_all (holds_newest bs ns q) (range_with_len 0 k)

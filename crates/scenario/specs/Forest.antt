@@ -1,5 +1,5 @@
 -- Trees that were announced.
-use Rattle.std.specs.Prelude.{◌≡◌, ℕ, ◌+◌, ◌*◌, ◌^◌, ◌<◌, ◌≤◌, cond, List, [], ◌∷◌, ◌++◌, length, Some, Ok, Err, Option, Result, ◌==◌}
+use Rattle.std.specs.Prelude.{◌≡◌, ℕ, ◌+◌, ◌*◌, ◌^◌, ◌<◌, ◌≤◌, List, [], ◌∷◌, ◌++◌, length, Ok, Err, find, reverse, Option, Result, ◌==◌}
 use Rattle.wiring.specs.declared.boxes.Node.{Node}
 use Rattle.wiring.specs.Boxes.{number_at}
 use Rattle.trees.specs.declared.spanning_tree.Tree.{Tree}
@@ -14,9 +14,9 @@ refusal_number refusal.UnknownTree = 4
 refusal_number (refusal.NotATree e) = 5
 refusal_number refusal.NoRoom = 7
 
--- a tree with the sequence number is taken for the one found so far
-abbrev pub by_seq : ℕ → Option Tree → Tree → Option Tree
-by_seq q found t = cond (t.id.seq == q) (Some t) found
+-- the last of some trees with a sequence number
+abbrev pub latest_with : ℕ → List Tree → Option Tree
+latest_with q ts = find (λ t. t.id.seq == q) (reverse ts)
 
 -- the number of the tree that is announced next: what it drew is how many there were
 abbrev pub next_number : List Node → ℕ → ℕ → List Tree → ℕ

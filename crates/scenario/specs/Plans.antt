@@ -1,5 +1,6 @@
 -- Trees as a script names them: for each box the one above it.
 use Rattle.std.specs.Prelude.{◌≡◌, ℕ, zero, suc, ◌+◌, Bool, true, false, cond, List, [], ◌∷◌, replicate, Ok, Err, Result, ◌==◌, nat_lt, slice_index, slice_set}
+use Rattle.std.specs.List.{range_with_len}
 use Rattle.trees.specs.declared.spanning_tree.Tree.{Tree}
 use Rattle.trees.specs.declared.tree_id.TreeId.{TreeId}
 use Rattle.trees.specs.declared.shape.TreeFault.{TreeFault}
@@ -41,10 +42,9 @@ depth_of (suc k) ns ps n = depth_of k ns ps n + rises ns ps (up_from k ns ps n)
 abbrev pub number_above : List Node → List ℕ → ℕ → ℕ
 number_above ns ps n = number_at ns (above_box ns ps n)
 
--- the first k bridges of a row stand above themselves
-unfoldable pub own_row : ℕ → List ℕ
-own_row zero = replicate 128 0
-own_row (suc b) = slice_set (own_row b) b b
+-- each bridge stands above itself
+unfoldable pub own_row : List ℕ
+own_row = range_with_len 0 128
 
 -- the value of a box that is there, at the place of its bridge
 abbrev pub spread_one : List Node → ℕ → ℕ → List ℕ → List ℕ
@@ -61,7 +61,7 @@ six f = f 0 ∷ f 1 ∷ f 2 ∷ f 3 ∷ f 4 ∷ f 5 ∷ []
 
 -- the bridge above each bridge
 unfoldable pub parent_row : List Node → List ℕ → List ℕ
-parent_row ns ps = spread 6 ns (six (number_above ns ps)) (own_row 128)
+parent_row ns ps = spread 6 ns (six (number_above ns ps)) own_row
 
 -- how deep each bridge is; where boxes stand above one another in a ring all of them are 6 deep, and that is no tree
 unfoldable pub depth_row : List Node → List ℕ → List ℕ

@@ -1,9 +1,8 @@
 -- A frame on its way from box to box.
-use Rattle.std.specs.Prelude.{ℕ, ◌-◌, Bool, false, cond, ◌||◌, List, Some, None, Option, ◌==◌, nat_lt, slice_index_or}
+use Rattle.std.specs.Prelude.{ℕ, ◌-◌, Bool, false, cond, List, Some, None, Ok, Err, Option, Result, ◌==◌, nat_lt, slice_index_or}
 use Rattle.scan.specs.declared.parts.PortRef.{PortRef}
 use Rattle.wiring.specs.declared.boxes.Node.{Node}
-use Rattle.scenario.specs.declared.travel.Outcome.{Outcome}
-use Rattle.scenario.specs.declared.travel.Outcome.TheVariants.{Went, Dropped}
+use Rattle.forwarding.specs.declared.fault.Fault.{Fault}
 use Rattle.scenario.specs.declared.travel.Step.{Step}
 use Rattle.scenario.specs.Cables.{far_end}
 use Rattle.scenario.specs.Losses.{left_at, with_left}
@@ -24,14 +23,10 @@ counted_by left p (Some q) = with_left left p (left_at left p - 1)
 abbrev pub counted_at : List Node → List (List ℕ) → PortRef → List (List ℕ)
 counted_at ns left p = counted_by left p (far_end ns p)
 
-abbrev pub flag_in : Outcome → ℕ → Bool
-flag_in (Went out) p = slice_index_or out p false
-flag_in (Dropped f) p = false
+abbrev pub flag_in : Result (List Bool) Fault → ℕ → Bool
+flag_in (Ok out) p = slice_index_or out p false
+flag_in (Err f) p = false
 
 -- the copy at a box went out by a port of it
 abbrev pub went_by : PortRef → Step → Bool
 went_by p s = cond (s.node == p.node) (cond (nat_lt p.port 16) (flag_in s.outcome p.port) false) false
-
--- one more copy: did one go out by a port
-abbrev pub hears_by : PortRef → Bool → Step → Bool
-hears_by p heard s = heard || went_by p s

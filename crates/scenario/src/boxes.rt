@@ -1,5 +1,5 @@
 // The bridges in the boxes.
-ghost use Rattle.std.specs.Prelude.{◌≡◌, ℕ, ◌<◌, [], ◌∷◌, IfOk, OnOk, OnErr, None, vec_len, slice_index_or};
+ghost use Rattle.std.specs.Prelude.{◌≡◌, ℕ, ◌<◌, IfOk, OnOk, OnErr, None, slice_index_or};
 ghost use Rattle.std.specs.Option.{option_map};
 ghost use Rattle.trees.specs.Ids.{id_number};
 ghost use Rattle.forwarding.specs.State.{aged_state};
@@ -14,32 +14,16 @@ use std::alloc::{AllocError, Global};
 use trees::TreeId;
 use wiring::boxes::Wiring;
 
-/// Six boxes without bridges.
-pub(crate) fn empty(heap: Global) -> Result<Vec<Option<Bridge>>, AllocError>
-    ensures { IfOk result (λ v. v.items ≡ None ∷ None ∷ None ∷ None ∷ None ∷ None ∷ []) }
-{
-    let mut bridges = Vec::with_capacity(heap, 6)?;
-    bridges.push_reserved(None);
-    bridges.push_reserved(None);
-    bridges.push_reserved(None);
-    bridges.push_reserved(None);
-    bridges.push_reserved(None);
-    bridges.push_reserved(None);
-    Ok(bridges)
-}
-
 /// A bridge that starts in a box with the settings of its ports; a box that is off has none.
 fn started(heap: Global, wiring: &Wiring, node: u8) -> Result<Option<Bridge>, AllocError>
     ensures { IfOk result (λ b. Began wiring.now.nodes node b) }
 {
-    let Some(id) = BridgeId::new(wiring.number(node)) else {
-        return Ok(None);
-    };
-    if !is_on(wiring, node) {
-        return Ok(None);
+    match BridgeId::new(wiring.number(node)) {
+        Some(id) if is_on(wiring, node) => {
+            Ok(Some(Bridge::new(heap, id, start_ports(wiring, node))?))
+        }
+        _ => Ok(None),
     }
-    let bridge = Bridge::new(heap, id, start_ports(wiring, node))?;
-    Ok(Some(bridge))
 }
 
 /// Sees that a box that is on has a bridge, and tells it of its links.
@@ -62,29 +46,25 @@ fn prepare(
 
 /// Sees that each box that is on has a bridge, and tells each of its links.
 pub(crate) fn prepare_all(
-    bridges: &mut Vec<Option<Bridge>>,
+    bridges: &mut [Option<Bridge>; 6],
     heap: Global,
     wiring: &Wiring,
 ) -> Result<(), AllocError>
-    ensures ok { OnOk result (PreparedBelow wiring.now.nodes 6 bridges.old.items bridges.new.items) }
-    ensures err { OnErr result (PartlyPrepared wiring.now.nodes bridges.old.items bridges.new.items) }
+    ensures ok { OnOk result (PreparedBelow wiring.now.nodes 6 bridges.old bridges.new) }
+    ensures err { OnErr result (PartlyPrepared wiring.now.nodes bridges.old bridges.new) }
 {
-    for node in 0..6u8 {
-        let i = node as usize;
-        if i < bridges.len() {
-            prepare(&mut bridges[i], heap, wiring, node)?;
-        }
+    for (node, slot) in bridges.iter_mut().enumerate() {
+        prepare(slot, heap, wiring, node as u8)?;
     }
     Ok(())
 }
 
 /// Each bridge forgets what is old.
-pub(crate) fn age_all(bridges: &mut Vec<Option<Bridge>>, tick: u64)
-    ensures length { vec_len bridges.new ≡ vec_len bridges.old }
-    ensures aged { (n : ℕ) → n < vec_len bridges.old → state_in (slice_index_or bridges.new.items n None) ≡ become (aged_state tick) (state_in (slice_index_or bridges.old.items n None)) }
+pub(crate) fn age_all(bridges: &mut [Option<Bridge>; 6], tick: u64)
+    ensures { (n : ℕ) → n < 6 → state_in (slice_index_or bridges.new n None) ≡ become (aged_state tick) (state_in (slice_index_or bridges.old n None)) }
 {
-    for i in 0..bridges.len() {
-        slots::age(&mut bridges[i], tick);
+    for slot in bridges.iter_mut() {
+        slots::age(slot, tick);
     }
 }
 
@@ -92,35 +72,19 @@ pub(crate) fn age_all(bridges: &mut Vec<Option<Bridge>>, tick: u64)
 pub(crate) fn newest_in(bridges: &[Option<Bridge>], node: u8) -> Option<TreeId>
     ensures { option_map id_number result ≡ newest_at bridges.now node }
 {
-    let i = node as usize;
-    if i < bridges.len() {
-        slots::newest(&bridges[i])
-    } else {
-        None
-    }
+    bridges.get(usize::from(node)).and_then(slots::newest)
 }
 
 /// Says whether a box is off, or its newest tree is the one with a number.
 fn holds(bridges: &[Option<Bridge>], wiring: &Wiring, node: u8, id: TreeId) -> bool
     ensures { result ≡ holds_newest bridges.now wiring.now.nodes (id_number id) node }
 {
-    if !is_on(wiring, node) {
-        return true;
-    }
-    match newest_in(bridges, node) {
-        Some(newest) => newest.same(id),
-        None => false,
-    }
+    !is_on(wiring, node) || newest_in(bridges, node) == Some(id)
 }
 
 /// Says whether the newest tree of every box that is on is the one with a number.
 pub(crate) fn all_hold(bridges: &[Option<Bridge>], wiring: &Wiring, id: TreeId) -> bool
     ensures { result ≡ all_hold 6 bridges.now wiring.now.nodes (id_number id) }
 {
-    let mut all = true;
-    for node in 0..6u8 {
-        let held = holds(bridges, wiring, node, id);
-        all = crate::resting::both(all, held);
-    }
-    all
+    (0..6u8).all(|node| holds(bridges, wiring, node, id))
 }

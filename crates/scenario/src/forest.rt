@@ -1,15 +1,19 @@
 // Trees that were announced.
-ghost use Rattle.std.specs.Prelude.{◌≡◌, ◌≤◌, [], IfOk, None, vec_len, vec_capacity, fold};
-ghost use Rattle.scenario.specs.Forest.{refusal_number, Announced, by_seq};
+ghost use Rattle.std.specs.Prelude.{◌≡◌, ◌≤◌, [], IfOk, Some, vec_len, vec_capacity};
+ghost use Rattle.std.specs.Fmt.{decimal};
+ghost use Rattle.scenario.specs.Forest.{refusal_number, Announced, latest_with};
+ghost use Rattle.scenario.specs.declared.forest.Refusal.TheVariants.{NotATree};
 
 use crate::tree_over;
 use sets::BridgeId;
 use std::alloc::{AllocError, Global};
+use std::error::Error;
+use std::fmt;
 use trees::{Tree, TreeFault, TreeId};
 use wiring::boxes::Wiring;
 
 /// Why a tree is not announced or adopted.
-#[derive(Clone, Copy)]
+#[derive(Clone, Copy, PartialEq, Eq, Debug)]
 pub enum Refusal {
     // There is no such bridge, or it is off.
     NoBridge,
@@ -23,6 +27,7 @@ pub enum Refusal {
 
 impl Refusal {
     /// The number that users see.
+    // Stays: one variant carries a value, so no discriminant says the number.
     pub fn number(self) -> u8
         ensures { result ≡ refusal_number self }
     {
@@ -35,33 +40,30 @@ impl Refusal {
     }
 }
 
+impl fmt::Display for Refusal {
+    ghost output = { λ refusal. Some (decimal (refusal_number refusal)) };
+
+    fn fmt<W: fmt::Write>(&self, f: &mut fmt::Formatter<W>) -> fmt::Result {
+        write!(f, "{}", self.number())
+    }
+}
+
+impl Error for Refusal {}
+
+impl From<TreeFault> for Refusal {
+    ghost from_gives = { λ fault refusal. refusal ≡ NotATree fault };
+
+    fn from(fault: TreeFault) -> Refusal {
+        Refusal::NotATree(fault)
+    }
+}
+
 /// The trees that were announced, the latest last.
 #[derive(Drop)]
 pub struct Forest {
+    // Stays: the order counts, since a later tree goes before an earlier one with its number; a map would lose it.
     list: Vec<Tree>,
     ghost room: { (vec_len list ≤ 32) × (32 ≤ vec_capacity list) },
-}
-
-/// The latest tree with a sequence number.
-fn latest(trees: &[Tree], seq: u32) -> Option<Tree>
-    ensures { result ≡ fold (by_seq seq) None trees.now }
-{
-    let mut found = None;
-    for i in 0..trees.len() {
-        found = newer(found, trees[i], seq);
-    }
-    found
-}
-
-/// A tree, if it has the sequence number, and else the one before.
-fn newer(found: Option<Tree>, tree: Tree, seq: u32) -> Option<Tree>
-    ensures { result ≡ by_seq seq found tree }
-{
-    if tree.id().seq() == seq {
-        Some(tree)
-    } else {
-        found
-    }
 }
 
 impl Forest {
@@ -77,15 +79,18 @@ impl Forest {
     pub fn trees(&self) -> &[Tree]
         ensures { result.now ≡ self.now.list.items }
     {
-        let trees = self.list.as_slice();
-        trees
+        self.list.as_slice()
     }
 
     /// The latest tree that was announced with a sequence number.
     pub fn find(&self, seq: u32) -> Option<Tree>
-        ensures { result ≡ fold (by_seq seq) None self.now.list.items }
+        ensures { result ≡ latest_with seq self.now.list.items }
     {
-        latest(self.list.as_slice(), seq)
+        self.list
+            .iter()
+            .rev()
+            .find(|tree| tree.id().seq() == seq)
+            .copied()
     }
 
     /// A box announces a tree; where there is none, nothing changes.
@@ -101,18 +106,12 @@ impl Forest {
         if self.list.len() >= 32 {
             return Err(Refusal::NoRoom);
         }
-        let Some(announcer) = BridgeId::new(wiring.number(node)) else {
-            return Err(Refusal::NoBridge);
-        };
-        let Some(id) = TreeId::new(seq, announcer, self.list.len() as u32) else {
-            return Err(Refusal::NoRoom);
-        };
-        match tree_over(wiring, id, parents) {
-            Ok(tree) => {
-                self.list.push_reserved(tree);
-                Ok(tree)
-            }
-            Err(fault) => Err(Refusal::NotATree(fault)),
-        }
+        let announcer = BridgeId::new(wiring.number(node)).ok_or(Refusal::NoBridge)?;
+        // Stays: it is below 32; `try_from` would add a refusal that never comes.
+        let nonce = self.list.len() as u32;
+        let id = TreeId::new(seq, announcer, nonce).ok_or(Refusal::NoRoom)?;
+        let tree = tree_over(wiring, id, parents)?;
+        self.list.push_reserved(tree);
+        Ok(tree)
     }
 }

@@ -22,31 +22,19 @@ impl Losses {
     pub fn left(&self, at: PortRef) -> u32
         ensures { result ≡ left_at self.now.left at }
     {
-        let i = at.node as usize;
-        let k = at.port as usize;
-        if i >= 6 {
-            return 0;
-        }
-        if k >= 16 {
-            return 0;
-        }
-        let left = self.left[i][k];
-        left
+        let row = self.left.get(usize::from(at.node));
+        let left = row.and_then(|row| row.get(usize::from(at.port)));
+        left.copied().unwrap_or(0)
     }
 
     /// Sets how many are lost at a port.
     fn set(&mut self, at: PortRef, packets: u32)
         ensures { self.new.left ≡ with_left self.old.left at packets }
     {
-        let i = at.node as usize;
-        let k = at.port as usize;
-        if i >= 6 {
-            return;
+        // Stays: with `get_mut` a proof knows the array's length and no element.
+        if at.node < 6 && at.port < 16 {
+            self.left[usize::from(at.node)][usize::from(at.port)] = packets;
         }
-        if k >= 16 {
-            return;
-        }
-        self.left[i][k] = packets;
     }
 
     /// The next packets that leave by a port are lost, at least so many.
@@ -58,6 +46,7 @@ impl Losses {
     }
 
     /// A packet leaves by a port: says whether it is lost, and counts it.
+    // Stays: it refuses nothing; whether the packet is lost is what is asked for.
     pub fn takes(&mut self, at: PortRef) -> bool
         ensures lost { result ≡ nat_lt 0 (left_at self.old.left at) }
         ensures after { self.new.left ≡ with_left self.old.left at (left_at self.old.left at - 1) }

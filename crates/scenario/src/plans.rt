@@ -1,7 +1,8 @@
 // Trees as a script names them: for each box the one above it.
-ghost use Rattle.std.specs.Prelude.{◌≡◌, ◌+◌, ◌≤◌, [], ◌∷◌};
-ghost use Rattle.scenario.specs.Plans.{there, above_box, rises, depth_of, own_row, spread_one, spread, parent_row, depth_row, number_above, Planned};
+ghost use Rattle.std.specs.Prelude.{◌≡◌};
+ghost use Rattle.scenario.specs.Plans.{there, above_box, depth_of, own_row, spread_one, spread, parent_row, depth_row, number_above, Planned};
 
+use std::array;
 use trees::{Tree, TreeFault, TreeId};
 use wiring::boxes::{Power, Wiring};
 
@@ -9,76 +10,81 @@ use wiring::boxes::{Power, Wiring};
 fn is_there(wiring: &Wiring, node: u8) -> bool
     ensures { result ≡ there wiring.now.nodes node }
 {
-    match wiring.power(node) {
-        Power::On | Power::Off => true,
-        Power::Absent => false,
-    }
+    wiring.power(node) != Power::Absent
 }
 
-/// The box above a box: itself where none is named that is there.
-fn above_box(wiring: &Wiring, parents: &[u8; 6], node: u8) -> u8
-    ensures { result ≡ above_box wiring.now.nodes parents.now node }
-{
-    let i = node as usize;
-    if i >= 6 {
-        return node;
-    }
-    let above = parents[i];
-    if is_there(wiring, above) { above } else { node }
+/// What a script says of a tree: in which wiring, and for each box the one above it.
+#[derive(Clone, Copy)]
+struct Plan<'a> {
+    wiring: &'a Wiring,
+    parents: &'a [u8; 6],
 }
 
-/// Counts a step upward from a box, if it leads to another.
-fn rise(wiring: &Wiring, parents: &[u8; 6], node: u8) -> u8
-    ensures { (result ≡ rises wiring.now.nodes parents.now node) × (result ≤ 1) }
-{
-    if above_box(wiring, parents, node) == node {
-        0
-    } else {
-        1
+impl Plan<'_> {
+    /// The box above a box: itself where none is named that is there.
+    fn above_box(&self, node: u8) -> u8
+        ensures { result ≡ above_box self.now.wiring.now.nodes self.now.parents.now node }
+    {
+        let Plan { wiring, parents } = *self;
+        let named = parents.get(usize::from(node)).copied();
+        named
+            .filter(|above| is_there(wiring, *above))
+            .unwrap_or(node)
     }
-}
 
-/// How many boxes stand above a box, up to the top; 6 where there is no top.
-fn depth_of(wiring: &Wiring, parents: &[u8; 6], node: u8) -> u8
-    ensures { result ≡ depth_of 6 wiring.now.nodes parents.now node }
-{
-    let mut at = node;
-    let mut depth = 0u8;
-    for _i in 0..6u8 {
-        depth += rise(wiring, parents, at);
-        at = above_box(wiring, parents, at);
+    /// How many boxes stand above a box, up to the top; 6 where there is no top.
+    fn depth_of(&self, node: u8) -> u8
+        ensures { result ≡ depth_of 6 self.now.wiring.now.nodes self.now.parents.now node }
+    {
+        let mut at = node;
+        let mut depth = 0u8;
+        // Stays: a fold over six steps would hand on a pair, the place and the depth, and read longer.
+        for _step in 0..6u8 {
+            let above = self.above_box(at);
+            depth += u8::from(above != at);
+            at = above;
+        }
+        depth
     }
-    depth
-}
 
-/// The number of the bridge above the one in a box.
-fn number_above(wiring: &Wiring, parents: &[u8; 6], node: u8) -> u8
-    ensures { result ≡ number_above wiring.now.nodes parents.now node }
-{
-    wiring.number(above_box(wiring, parents, node))
+    /// The number of the bridge above the one in a box.
+    fn number_above(&self, node: u8) -> u8
+        ensures { result ≡ number_above self.now.wiring.now.nodes self.now.parents.now node }
+    {
+        self.wiring.number(self.above_box(node))
+    }
+
+    /// The bridge above each bridge.
+    fn parent_row(&self) -> [u8; 128]
+        ensures { result ≡ parent_row self.now.wiring.now.nodes self.now.parents.now }
+    {
+        let above = array::from_fn(|node| self.number_above(node as u8));
+        spread_over(self.wiring, own_row(), &above)
+    }
+
+    /// How deep each bridge is.
+    fn depth_row(&self) -> [u8; 128]
+        ensures { result ≡ depth_row self.now.wiring.now.nodes self.now.parents.now }
+    {
+        let deep = array::from_fn(|node| self.depth_of(node as u8));
+        spread_over(self.wiring, [0; 128], &deep)
+    }
 }
 
 /// A row in which each bridge stands above itself.
 fn own_row() -> [u8; 128]
-    ensures { result ≡ own_row 128 }
+    ensures { result ≡ own_row }
 {
-    let mut row = [0u8; 128];
-    for b in 0..128u8 {
-        row[b as usize] = b;
-    }
-    row
+    array::from_fn(|b| b as u8)
 }
 
 /// Puts the value of a box that is there at the place of its bridge.
 fn spread_one(wiring: &Wiring, row: &mut [u8; 128], node: u8, value: u8)
     ensures { row.new ≡ spread_one wiring.now.nodes node value row.old }
 {
-    let i = wiring.number(node) as usize;
-    if !is_there(wiring, node) {
-        return;
-    }
-    if i < 128 {
-        row[i] = value;
+    let place = usize::from(wiring.number(node));
+    if is_there(wiring, node) && place < row.len() {
+        row[place] = value;
     }
 }
 
@@ -87,47 +93,18 @@ fn spread_over(wiring: &Wiring, row: [u8; 128], values: &[u8; 6]) -> [u8; 128]
     ensures { result ≡ spread 6 wiring.now.nodes values.now row }
 {
     let mut filled = row;
-    for node in 0..6u8 {
-        spread_one(wiring, &mut filled, node, values[node as usize]);
+    for (node, value) in values.iter().enumerate() {
+        spread_one(wiring, &mut filled, node as u8, *value);
     }
     filled
-}
-
-/// The bridge above each bridge.
-fn parent_row(wiring: &Wiring, parents: &[u8; 6]) -> [u8; 128]
-    ensures { result ≡ parent_row wiring.now.nodes parents.now }
-{
-    let above = [
-        number_above(wiring, parents, 0),
-        number_above(wiring, parents, 1),
-        number_above(wiring, parents, 2),
-        number_above(wiring, parents, 3),
-        number_above(wiring, parents, 4),
-        number_above(wiring, parents, 5),
-    ];
-    spread_over(wiring, own_row(), &above)
-}
-
-/// How deep each bridge is.
-fn depth_row(wiring: &Wiring, parents: &[u8; 6]) -> [u8; 128]
-    ensures { result ≡ depth_row wiring.now.nodes parents.now }
-{
-    let deep = [
-        depth_of(wiring, parents, 0),
-        depth_of(wiring, parents, 1),
-        depth_of(wiring, parents, 2),
-        depth_of(wiring, parents, 3),
-        depth_of(wiring, parents, 4),
-        depth_of(wiring, parents, 5),
-    ];
-    spread_over(wiring, [0; 128], &deep)
 }
 
 /// The tree over all bridges in which each box stands below the one that is named for it.
 pub fn tree_over(wiring: &Wiring, id: TreeId, parents: &[u8; 6]) -> Result<Tree, TreeFault>
     ensures { Planned id (parent_row wiring.now.nodes parents.now) (depth_row wiring.now.nodes parents.now) result }
 {
-    let parent = parent_row(wiring, parents);
-    let depth = depth_row(wiring, parents);
+    let plan = Plan { wiring, parents };
+    let parent = plan.parent_row();
+    let depth = plan.depth_row();
     Tree::new(id, parent, depth)
 }

@@ -1,30 +1,28 @@
 // A frame on its way from box to box, copy by copy.
-ghost use Rattle.std.specs.Prelude.{◌≡◌, ◌≤◌, false, IfOk, vec_len, fold};
+ghost use Rattle.std.specs.Prelude.{◌≡◌, ◌≤◌, false, IfOk};
+ghost use Rattle.std.specs.List.{list_any};
+ghost use Rattle.std.specs.VecDeque.{deque_len};
 ghost use Rattle.scenario.specs.Cables.{on_at};
 ghost use Rattle.scenario.specs.Player.{Kept};
-ghost use Rattle.scenario.specs.Travel.{leaves_for, counted_at, went_by, hears_by};
+ghost use Rattle.scenario.specs.Travel.{leaves_for, counted_at, went_by};
 ghost use Rattle.scenario.specs.Journey.{Arrived, FrameAt, NoStep};
 
+use crate::cables::vlan_at;
 use crate::{Losses, Player, boxes, is_on, other_end, slots};
 use forwarding::{Arrival, Fault};
 use ports::Vlan;
 use scan::parts::PortRef;
 use sets::BridgeId;
 use std::alloc::{AllocError, Global};
+use std::collections::VecDeque;
 use trees::TreeId;
-use wiring::boxes::{Port as Socket, Wiring};
+use wiring::boxes::Wiring;
 
 /// The most copies of one frame that are played: more than any tree needs.
 pub const MOST_COPIES: usize = 1000;
 
-/// What became of a copy at a box.
-#[derive(Clone, Copy)]
-pub enum Outcome {
-    // It went out by the ports with a flag.
-    Went([bool; 16]),
-    // It was dropped.
-    Dropped(Fault),
-}
+/// What became of a copy at a box: it went out by the ports with a flag, or was dropped.
+pub type Outcome = Result<[bool; 16], Fault>;
 
 /// A copy that came to a box.
 #[derive(Clone, Copy)]
@@ -55,49 +53,40 @@ pub fn leave(wiring: &Wiring, losses: &mut Losses, at: PortRef) -> Option<PortRe
     ensures after { losses.new.left ≡ counted_at wiring.now.nodes losses.old.left at }
 {
     let end = other_end(wiring, at)?;
-    if losses.takes(at) { None } else { Some(end) }
+    (!losses.takes(at)).then_some(end)
 }
 
 /// Says whether a copy went out by a port of a box.
 fn went_by(step: Step, at: PortRef) -> bool
     ensures { result ≡ went_by at step }
 {
-    if step.node != at.node || at.port >= 16 {
-        return false;
-    }
-    match step.outcome {
-        Outcome::Went(out) => out[at.port as usize],
-        Outcome::Dropped(_) => false,
-    }
+    step.node == at.node
+        && at.port < 16
+        && matches!(step.outcome, Ok(out) if out[usize::from(at.port)])
 }
 
 /// Says whether any copy went out by a port of a box: stations behind it can have it.
 pub fn heard_at(steps: &[Step], at: PortRef) -> bool
-    ensures { result ≡ fold (hears_by at) false steps.now }
+    ensures { result ≡ list_any (went_by at) steps.now }
 {
-    let mut heard = false;
-    for i in 0..steps.len() {
-        let went = went_by(steps[i], at);
-        heard = crate::resting::either(heard, went);
-    }
-    heard
+    steps.iter().any(|step| went_by(*step, at))
 }
 
 /// Hands a frame on by each port with a flag that has a cable.
 fn hand_on(
     wiring: &Wiring,
     losses: &mut Losses,
-    queue: &mut Vec<Packet>,
+    queue: &mut VecDeque<Packet>,
     node: u8,
     by: BridgeId,
     out: &[bool; 16],
 ) -> Result<(), AllocError>
-    ensures { vec_len queue.old ≤ vec_len queue.new }
+    ensures { deque_len queue.old ≤ deque_len queue.new }
 {
-    for port in 0..16u8 {
-        if out[port as usize] {
+    for (port, went) in (0..16u8).zip(out) {
+        if *went {
             if let Some(at) = leave(wiring, losses, PortRef { node, port }) {
-                queue.push(Packet { by, at })?;
+                queue.push_back(Packet { by, at })?;
             }
         }
     }
@@ -111,8 +100,7 @@ impl Player {
         ensures same { Kept self.old self.new }
     {
         let node = packet.at.node;
-        let i = node as usize;
-        if i >= self.bridges.len() || !is_on(wiring, node) {
+        if !is_on(wiring, node) {
             return None;
         }
         let arrival = Arrival {
@@ -124,10 +112,7 @@ impl Player {
             to: frame.to,
         };
         let clock = self.clock;
-        match slots::from_neighbour(&mut self.bridges[i], arrival, clock) {
-            Ok(out) => Some(Outcome::Went(out)),
-            Err(fault) => Some(Outcome::Dropped(fault)),
-        }
+        Some(slots::from_neighbour(&mut self.bridges[usize::from(node)], arrival, clock))
     }
 
     /// Notes what became of a copy at a box, and hands it on.
@@ -137,18 +122,19 @@ impl Player {
         node: u8,
         outcome: Outcome,
         steps: &mut Vec<Step>,
-        queue: &mut Vec<Packet>,
+        queue: &mut VecDeque<Packet>,
     ) -> Result<(), AllocError>
         ensures same { (self.new.clock ≡ self.old.clock) × ((self.new.forest ≡ self.old.forest) × (self.new.bridges ≡ self.old.bridges)) }
     {
         steps.push(Step { node, outcome })?;
+        // Stays: nothing leaves a box whose number no bridge can have, and that is no fault that `?` could hand on.
         let Some(by) = BridgeId::new(wiring.number(node)) else {
             return Ok(());
         };
-        if let Outcome::Went(out) = outcome {
-            hand_on(wiring, &mut self.losses, queue, node, by, &out)?;
+        match outcome {
+            Ok(out) => hand_on(wiring, &mut self.losses, queue, node, by, &out),
+            Err(_) => Ok(()),
         }
-        Ok(())
     }
 
     /// Plays all copies of a frame, the first that set out first.
@@ -157,15 +143,15 @@ impl Player {
         wiring: &Wiring,
         frame: Frame,
         steps: &mut Vec<Step>,
-        queue: &mut Vec<Packet>,
+        queue: &mut VecDeque<Packet>,
     ) -> Result<(), AllocError>
         ensures same { (self.new.clock ≡ self.old.clock) × (self.new.forest ≡ self.old.forest) }
     {
-        for i in 0..MOST_COPIES {
-            if i >= queue.len() {
+        // Stays: the count bounds how many copies are played, and is no index; `while let` alone would have no bound.
+        for _copy in 0..MOST_COPIES {
+            let Some(packet) = queue.pop_front() else {
                 return Ok(());
-            }
-            let packet = queue[i];
+            };
             if let Some(outcome) = self.arrive(wiring, packet, frame) {
                 self.spread(wiring, packet.at.node, outcome, steps, queue)?;
             }
@@ -175,13 +161,10 @@ impl Player {
 
     /// The frame that a station at a port sends along the newest tree of its box, if it may go.
     fn frame_from(&self, wiring: &Wiring, at: PortRef, from: [u8; 6], to: [u8; 6]) -> Option<Frame>
-        ensures { FrameAt wiring.now.nodes self.now.bridges.items at from to result }
+        ensures { FrameAt wiring.now.nodes self.now.bridges at from to result }
     {
-        let Socket::Access(number) = wiring.port(at) else {
-            return None;
-        };
-        let vlan = Vlan::new(number)?;
-        let tree = boxes::newest_in(self.bridges.as_slice(), at.node)?;
+        let vlan = vlan_at(wiring, at)?;
+        let tree = boxes::newest_in(&self.bridges, at.node)?;
         Some(Frame {
             tree,
             vlan,
@@ -203,18 +186,19 @@ impl Player {
         ensures same { (self.new.clock ≡ self.old.clock) × (self.new.forest ≡ self.old.forest) }
     {
         let mut steps = Vec::new(heap);
-        let mut queue = Vec::new(heap);
-        let i = at.node as usize;
-        if i >= self.bridges.len() || !is_on(wiring, at.node) {
+        let mut queue = VecDeque::new(heap);
+        if !is_on(wiring, at.node) {
             return Ok(Ok(steps));
         }
         let frame = self.frame_from(wiring, at, from, to);
         let clock = self.clock;
-        let out = match slots::from_station(&mut self.bridges[i], at.port, from, to, clock) {
-            Ok(out) => out,
-            Err(fault) => return Ok(Err(fault)),
-        };
-        self.spread(wiring, at.node, Outcome::Went(out), &mut steps, &mut queue)?;
+        let slot = &mut self.bridges[usize::from(at.node)];
+        let outcome = slots::from_station(slot, at.port, from, to, clock);
+        // Stays: a fault lies within the Ok of the public result; for `?` callers would get another type, one error of faults and memory.
+        if let Err(fault) = outcome {
+            return Ok(Err(fault));
+        }
+        self.spread(wiring, at.node, outcome, &mut steps, &mut queue)?;
         if let Some(frame) = frame {
             self.carry(wiring, frame, &mut steps, &mut queue)?;
         }

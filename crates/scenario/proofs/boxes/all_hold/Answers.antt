@@ -1,9 +1,11 @@
-use Rattle.std.proofs.Common.{sym}
-use Rattle.scenario.proofs.Hanging.{hold_none, hold_step}
+use Rattle.std.proofs.Common.{refl, rules}
+use Rattle.std.proofs.lemmas.Iterator.{YieldsList-from_range}
+use Rattle.std.proofs.lemmas.Iterator.Search.{all_from_yields_List}
+use borrow.Author.Tests.{tests}
+use Rattle.trees.specs.Ids.{id_number}
+use Rattle.scenario.specs.Boxes.{holds_newest, all_hold}
 use Rattle.scenario.proofs.boxes.all_hold.Goals as goal
 
-pub loop-node-init : goal.loop-node-init
-loop-node-init c = sym (hold_none _ _ _)
-
-pub loop-node-preserved : goal.loop-node-preserved
-loop-node-preserved c = hold_step c.loop-node.node _ _ _ _ _ _ c.loop-node.invariant c.holds-held.ensures c.both-all.ensures
+pub returns : goal.returns
+unfolding all_hold
+returns c = all_from_yields_List (holds_newest c.args.bridges.now c.args.wiring.now.nodes (id_number c.args.id)) _ _ _ c.all.ensures.ran (YieldsList-from_range 0 6 6 (cc) refl) (λ x b q k. search (rules, tests))
