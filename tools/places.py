@@ -14,13 +14,13 @@ LINES = {
     "1 a flag for a refusal: a method that changes something and answers a bool": r"fn \w+\(&mut self.*-> bool|fn \w+\(.*&mut .*-> bool",
     "1 a number for a kind of message": r"kind: u8|kind_of\(\w+\) [!=]=|match kind_of|is_whole\(\w+, \d|head\([\w.]+, \d\)|^\s*\[\d, (self|bridge|a,)|&\[\d, self",
     "1 a number for a refusal": r"fn number\(self\) -> u8",
-    "1 a length or an end for none": r"fn (find_\w+|lowest|run|trimmed_len)\(.*-> (usize|u8)",
-    "1 an answer handed on by hand": r"if let Err\((\w+)\) = .* \{|Err\((\w+)\) => Err\(\2\)|Err\((\w+)\) => return Err\(\3\)|Ok\((\w+)\) => Ok\(\4\)|Some\((\w+)\) => Some\(\w+\)|None => None,|Some\(_\) => true|None => false",
+    "1 a length or an end for none": r"fn (find_\w+|lowest)\(.*-> (usize|u8)",
+    "1 an answer handed on by hand": r"if let Err\((\w+)\) = \w+\(\w+\) \{|Err\((\w+)\) => Err\(\2\)|Err\((\w+)\) => return Err\(\3\)|Ok\((\w+)\) => Ok\(\4\)|Some\((\w+)\) => Some\(\w+\)|None => None,|Some\(_\) => true|None => false",
     "1 a fault for want of a value, by hand": r"else \{ *$",
     "3 a loop that counts": r"^\s*(for _?\w+ in 0\.\.|while (?!let))|'\w+: for \w+ in 0\.\.",
-    "4 equality or order by hand": r"fn (same\w*|is|is_newer_than|is_earlier|is_named|lives_at)\(|\.value\(\) [!=]= |a\.\w+ == b\.\w+",
-    "4 a conversion by hand": r"fn (fault_of|number|value|index)\(|fn new\((value|word|address): [^,]*(, vlan: u16)?\) -> Option<| as (u32|u64|usize)\b",
-    "4 printing by hand": r"\{node\}\.\{port\}|\{other\}\.\{end\}|:02x\}:|fault \{number\}|with \{number\}|fn words\(",
+    "4 equality or order by hand": r"fn (same|same_port|same_address|is|is_newer_than|is_earlier|lives_at)\(|fn is_named\(station|\.value\(\) [!=]= |a\.\w+ == b\.\w+",
+    "4 a conversion by hand": r"fn (fault_of|number|value|index)\(&?self\)|fn fault_of\(|fn new\((value|word|address): [^,]*(, vlan: u16)?\) -> Option<| as (u32|u64|usize)\b",
+    "4 printing by hand": r"\{node\}\.\{port\}|\{other\}\.\{end\}|:02x\}:|fault \{number\}|with \{number\}",
     "6 a length beside a buffer, parallel arrays, a sorted list searched, an index into a growing list": r"^\s+(pub )?(len|used): usize,|^\s+pub ports: u8,|^\s+waits: BridgeSet,|^\s+(pub(\(crate\))? )?entries: Vec<Entry>,|^    depth: \[u8; MOST_BRIDGES\],|= queue\[i\]",
     "7 a step chosen by a value": r"match (kind|verb|command) \{",
 }
@@ -79,6 +79,8 @@ def main():
             for i, line in enumerate(lines):
                 if line.lstrip().startswith("//") or not rule.search(line):
                     continue
+                if name.startswith("1 a number for a kind") and "Kind::" in line:
+                    continue
                 if name.startswith("1 a fault") and not re.match(r"\s*(return (Err|None|Ok|false)|break)", lines[i + 1] if i + 1 < len(lines) else ""):
                     continue
                 if name.startswith("1 a fault") and "let " not in line:
@@ -88,7 +90,7 @@ def main():
         for m in SHAPES.finditer(text):
             arms = [a.strip() for a in m.group(2).split("\n") if a.strip() and not a.strip().startswith("//")]
             plain = [a for a in arms if re.fullmatch(r"\w+,", a)]
-            if len(arms) == 2 and (len(plain) == 1 or any("Fault" in a for a in arms)):
+            if len(arms) == 2 and not re.search("Fault|Refus", m.group(1)) and (len(plain) == 1 or any("Fault" in a for a in arms)):
                 i = text[: m.start()].count("\n")
                 found["1 an enum of the shape of Option or Result"].append((f"{path}:{i + 1}", m.group(1), stays(lines, i)))
         name = ""
