@@ -41,11 +41,14 @@ impl PortQueue {
     pub(crate) fn next_frame(&self) -> Option<&[u8]>
         ensures next { option_map (λ x. x.now) result ≡ frame_in (out_of (port_of self.now)) }
         ensures within { IfSome result (λ f. length f.now ≤ 1529) }
+        ensures held { (length (port_of self.now).frames ≤ 16) × ((port_of self.now).sent ≤ 64) }
     {
-        if self.pending.peek().is_some() || self.budget.is_spent() {
+        let front = self.row.front();
+        let spent = self.budget.is_spent();
+        if self.pending.peek().is_some() || spent {
             return None;
         }
-        self.row.front()
+        front
     }
 
     // What was to leave next has left; false if there was nothing.

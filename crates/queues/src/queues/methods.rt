@@ -80,6 +80,7 @@ impl Queues {
     pub fn next_frame(&self, port: usize) -> Option<&[u8]>
         ensures next { option_map (λ x. x.now) result ≡ frame_in (out_at port (ports_of self.now)) }
         ensures within { IfSome result (λ f. length f.now ≤ 1529) }
+        ensures held { port < 16 → (length (port_at port (ports_of self.now)).frames ≤ 16) × ((port_at port (ports_of self.now)).sent ≤ 64) }
     {
         self.queue(port)?.next_frame()
     }
