@@ -5,6 +5,8 @@ use Rattle.std.proofs.lemmas.List.Edits.{map_over_more}
 use Rattle.std.proofs.lemmas.Bool.Decides.{nat_tests}
 use Rattle.std.specs.List.{FoldsTo}
 use Rattle.rows.specs.Events.{Comes, takes, after}
+use Rattle.rows.specs.Row.{waiting}
+use Rattle.rows.specs.declared.row.Row.{Row}
 use Rattle.queues.specs.Port.{Port, port_of, idle, with_frame}
 use Rattle.queues.specs.Ports.{changed, port_at, room_at}
 use Rattle.queues.specs.declared.port.PortQueue.{PortQueue}
@@ -45,12 +47,12 @@ idle_all step p q zs xs ys n steps none is long each =
     ap (map port_of) same ∙ idle_each step each p q xs steps ∙ ap (λ k. replicate k idle) (ap length (sym same) ∙ long)
 
 -- a frame came to one port, and was taken or not
-pub port_came : (ok : Bool) (qs : List PortQueue) (i : ℕ) (q : PortQueue) (r : List (List ℕ)) (f : List ℕ) → i < length qs → q ≡ get_or qs i q → r ≡ after (Comes f) q.row → ok ≡ takes f q.row
-    → map port_of (set qs i (record { pending = q.pending; row = r; budget = q.budget })) ≡ cond ok (changed i (with_frame f) (map port_of qs)) (map port_of qs)
+pub port_came : (ok : Bool) (qs : List PortQueue) (i : ℕ) (q : PortQueue) (r : Row) (f : List ℕ) → i < length qs → q ≡ get_or qs i q → waiting r ≡ after (Comes f) (waiting q.row) → ok ≡ takes f (waiting q.row)
+    → map port_of (set qs i (record q { row = r })) ≡ cond ok (changed i (with_frame f) (map port_of qs)) (map port_of qs)
 port_came true qs i q r f lt is e t =
-    port_set qs i q _ (with_frame f) lt is (ap (λ v. record { control = (port_of q).control; frames = v; sent = (port_of q).sent }) (e ∙ ap (λ b. cond b (q.row ++ f ∷ []) q.row) (sym t)))
+    port_set qs i q _ (with_frame f) lt is (ap (λ v. record { control = (port_of q).control; frames = v; sent = (port_of q).sent }) (e ∙ ap (λ b. cond b (waiting q.row ++ f ∷ []) (waiting q.row)) (sym t)))
 port_came false qs i q r f lt is e t =
-    port_same qs i q _ lt is (ap (λ v. record { control = (port_of q).control; frames = v; sent = (port_of q).sent }) (e ∙ ap (λ b. cond b (q.row ++ f ∷ []) q.row) (sym t)))
+    port_same qs i q _ lt is (ap (λ v. record { control = (port_of q).control; frames = v; sent = (port_of q).sent }) (e ∙ ap (λ b. cond b (waiting q.row ++ f ∷ []) (waiting q.row)) (sym t)))
 
 -- the port that a look-up finds
 pub port_found : (r : Option (Bor PortQueue)) (xs qs : List PortQueue) (i : ℕ) → xs ≡ qs → length qs ≡ 16 → is_some r ≡ ltb i (length xs) → IfSome r (λ x. x.now ≡ get_or xs i x.now) → MatchOption r (16 ≤ i) (λ x. (i < 16) × (port_of x.now ≡ port_at i (map port_of qs)))

@@ -1,5 +1,7 @@
 -- What waits at a port, what leaves next, and what then waits.
 use Rattle.std.specs.Prelude.{ℕ, ◌+◌, cond, List, [], ◌∷◌, ◌++◌, drop, Some, None, Option, nat_lt}
+use Rattle.rows.specs.Row.{waiting}
+use Rattle.rows.specs.Budget.{sent_of}
 use Rattle.pending.specs.Waits.{Waits, Message, nothing, waits, next_of, without}
 use Rattle.queues.specs.declared.port.PortQueue.{PortQueue}
 
@@ -9,7 +11,7 @@ pub record Port : Type 0 where
   pub sent : ℕ
 
 abbrev pub port_of : PortQueue → Port
-port_of q = record { control = waits q.pending; frames = q.row; sent = q.budget }
+port_of q = record { control = waits q.pending; frames = waiting q.row; sent = sent_of q.budget }
 
 abbrev pub idle : Port
 idle = record { control = nothing; frames = []; sent = 0 }

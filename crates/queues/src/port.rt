@@ -43,12 +43,10 @@ impl PortQueue {
         ensures within { IfSome result (λ f. length f.now ≤ 1529) }
         ensures held { (length (port_of self.now).frames ≤ 16) × ((port_of self.now).sent ≤ 64) }
     {
-        let front = self.row.front();
-        let spent = self.budget.is_spent();
-        if self.pending.peek().is_some() || spent {
+        if self.pending.peek().is_some() || self.budget.is_spent() {
             return None;
         }
-        front
+        self.row.front()
     }
 
     // What was to leave next has left; false if there was nothing.

@@ -1,3 +1,6 @@
+pub mod Bounds
+pub mod Budget
 pub mod Events
 pub mod Refused
 pub mod Row
+pub mod Slot

@@ -2,6 +2,7 @@ ghost use Rattle.std.specs.Prelude.{◌≡◌, ◌<◌, ◌≤◌, true, false, 
 ghost use Rattle.std.specs.Borrow.{sem, follows_so};
 ghost use Rattle.std.specs.Option.{ghost_name_of as name_of, option_map};
 ghost use Rattle.rows.specs.Refused.{why};
+ghost use Rattle.rows.specs.Slot.{frame};
 ghost use Rattle.rows.specs.contracts.slot.Slot.{the_row as slot_row};
 ghost use Rattle.pending.specs.Waits.{waits, message_of};
 ghost use Rattle.pending.specs.contracts.messages.Pending.{the_row as pending_row};
@@ -28,8 +29,8 @@ impl Queues {
     // Lends the place of the next frame of a port, empty, and counts it as waiting there: what is written to it leaves
     // after all that wait there now. `None`, and nothing changed, if the port is not there or has no room.
     pub fn place(&mut self, port: usize) -> Option<&mut Slot>
-        ensures* lent { sem 𝓛 (follows_so the_row slot_row self.entry.ghost_name (name_of result) (λ w n. (is_some result ≡ true → ports_of n ≡ changed port (with_frame w) (ports_of self.old))) (λ n. (is_some result ≡ false → ports_of n ≡ ports_of self.old))) }
-        ensures lent_facts { (is_some result ≡ room_at port (ports_of self.old)) × IfSome result (λ x. x.now ≡ []) }
+        ensures* lent { sem 𝓛 (follows_so the_row slot_row self.entry.ghost_name (name_of result) (λ w n. (is_some result ≡ true → ports_of n ≡ changed port (with_frame (frame w)) (ports_of self.old))) (λ n. (is_some result ≡ false → ports_of n ≡ ports_of self.old))) }
+        ensures lent_facts { (is_some result ≡ room_at port (ports_of self.old)) × IfSome result (λ x. frame x.now ≡ []) }
     {
         // Stays: a lent place; a `&mut` out of `get_mut(port)?` is not followed back to `self`, so `returns` gets no proof.
         if port >= PORTS {

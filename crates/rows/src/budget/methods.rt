@@ -1,19 +1,20 @@
 ghost use Rattle.std.specs.Prelude.{◌≡◌, ◌+◌, ◌≤◌, if◌then◌else◌, nat_le, nat_lt};
+ghost use Rattle.rows.specs.Budget.{sent_of};
 
 use super::{Budget, FRAMES_EACH_TICK};
 
 impl Budget {
     // The start of a tick: nothing was sent.
     pub fn new() -> Budget
-        ensures { result ≡ 0 }
+        ensures { sent_of result ≡ 0 }
     {
         Budget { sent: 0 }
     }
 
     // Whether the port has sent all that it may in this tick.
     pub fn is_spent(&self) -> bool
-        ensures spent { result ≡ nat_le 64 self.now }
-        ensures within { self.now ≤ 64 }
+        ensures spent { result ≡ nat_le 64 (sent_of self.now) }
+        ensures within { sent_of self.now ≤ 64 }
     {
         self.sent >= FRAMES_EACH_TICK
     }
@@ -21,8 +22,8 @@ impl Budget {
     // Counts a frame that leaves; false, and nothing counted, if none may leave any more.
     // Stays: as `HashSet::remove` it answers whether there was one; a `Result<(), Spent>` would say no more than this bool.
     pub fn take(&mut self) -> bool
-        ensures allowed { result ≡ nat_lt self.old 64 }
-        ensures after { self.new ≡ (if result then self.old + 1 else self.old) }
+        ensures allowed { result ≡ nat_lt (sent_of self.old) 64 }
+        ensures after { sent_of self.new ≡ (if result then sent_of self.old + 1 else sent_of self.old) }
     {
         if self.is_spent() {
             return false;
@@ -33,7 +34,7 @@ impl Budget {
 
     // A tick passed: the port may send as many again.
     pub fn refill(&mut self)
-        ensures { self.new ≡ 0 }
+        ensures { sent_of self.new ≡ 0 }
     {
         self.sent = 0;
     }

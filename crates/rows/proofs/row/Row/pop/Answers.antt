@@ -1,9 +1,13 @@
-use Rattle.std.proofs.Common.{drop, ap, ◌∙◌, arith}
-use Rattle.rows.proofs.Rings.{row_small, frames_pop}
+use Rattle.std.proofs.Common.{refl, arith}
+use Rattle.std.proofs.lemmas.Bool.Decides.{nat_tests}
+use Rattle.rows.proofs.Rings.{length-frames, slots_pop}
 use Rattle.rows.proofs.row.Row.pop.Goals as goal
 
 pub returns-clause-within : goal.returns-clause-within
-returns-clause-within c = row_small _ _ _ c.self.view_is c.self.invariant.2
+returns-clause-within c = rw length-frames (omega arith)
+
+pub returns-clause-some : goal.returns-clause-some
+returns-clause-some c = rw length-frames (grind (arith, nat_tests))
 
 pub returns-clause-after : goal.returns-clause-after
-returns-clause-after c = frames_pop _ _ _ (omega arith) ∙ ap (drop 1) c.self.view_is
+returns-clause-after c = slots_pop _ _ _ _ _ _ refl refl refl (omega arith)
