@@ -1,2 +1,3 @@
+pub mod Bounds
 mod Ports
 mod Runs

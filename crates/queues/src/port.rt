@@ -38,6 +38,7 @@ impl PortQueue {
     }
 
     // The frame that leaves next: none while a message waits, or once the port has sent all that it may in this tick.
+    #[tactic(auto, using(crate::proofs::Bounds::small_ports))]
     pub(crate) fn next_frame(&self) -> Option<&[u8]>
         ensures next { option_map (λ x. x.now) result ≡ frame_in (out_of (port_of self.now)) }
         ensures within { IfSome result (λ f. length f.now ≤ 1529) }
