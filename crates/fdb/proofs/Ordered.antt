@@ -1,8 +1,8 @@
 -- Entries in the order of their stations: what stands at which index, and that the order stays.
-use Rattle.std.proofs.Common.{◌≡◌, ℕ, zero, suc, ◌<◌, ◌≤◌, Bool, true, cond, ltb, List, [], ◌∷◌, length, get_or, set, is_some, Some, None, filter, Option, sym, refl, ◌∙◌, subst, inl, inr, arith}
+use Rattle.std.proofs.Common.{◌≡◌, ℕ, zero, suc, ◌<◌, ◌≤◌, Bool, true, cond, ltb, List, [], ◌∷◌, length, get_or, set, is_some, Some, None, filter, Option, sym, refl, ◌∙◌, inl, inr, arith}
 use Rattle.std.proofs.lemmas.Bool.Decides.{nat_tests}
 use Rattle.std.proofs.lemmas.Bool.{and_parts, le-ltb, cond_both, cases_lt}
-use Rattle.std.specs.List.{insert}
+use Rattle.std.specs.List.{insert, remove}
 use Rattle.fdb.specs.declared.entry.Entry.{Entry}
 use Rattle.fdb.specs.Entries.{no_entry, above, ascending, find, put, without, oldest, remembered, fresh}
 use Rattle.fdb.specs.Search.{StandsAt, BelongsAt}
@@ -54,6 +54,20 @@ put-inserted e (x ∷ xs) zero l b a = let q = a 0 (omega arith) (omega arith) i
 put-inserted e (x ∷ xs) (suc i) l b a =
     let q = b 0 (omega arith) in
     grind (arith, nat_tests, put-inserted e xs i (omega arith) (λ k m. b (suc k) (omega arith)) (λ k m n. a (suc k) (omega arith) (omega arith)))
+
+-- what stands at an index taken out is all but its station
+without-above : (s : ℕ) (xs : List Entry) → above s xs ≡ true → without s xs ≡ xs
+unfolding above without
+without-above s [] h = refl
+without-above s (x ∷ xs) h = let p = and_parts (ltb s x.station) (above s xs) h in grind (arith, nat_tests, without-above s xs p.1)
+
+pub removed_without : (es : List Entry) → ascending es ≡ true → (i : ℕ) → i < length es → remove es i ≡ without (get_or es i no_entry).station es
+unfolding ascending without
+removed_without [] h i l = absurd (omega arith)
+removed_without (x ∷ xs) h zero l = grind (arith, nat_tests, without-above x.station xs (and_parts (above x.station xs) (ascending xs) h).0)
+removed_without (x ∷ xs) h (suc i) l =
+    let p = and_parts (above x.station xs) (ascending xs) h in
+    let a = above_at x.station xs p.0 i (omega arith) in grind (arith, nat_tests, removed_without xs p.1 i (omega arith))
 
 -- the order stays when an entry is put in its place, and when some are left out
 above-put : (s : ℕ) (e : Entry) (xs : List Entry) → s < e.station → above s xs ≡ true → above s (put e xs) ≡ true
@@ -118,6 +132,10 @@ room_ascending keep es h =
     go None = h
     go (Some v) = ascending-kept _ es h
 
+-- what is held once room was made stands in order
+pub made_ascending : (keep : ℕ) (es xs : List Entry) → ascending es ≡ true → xs ≡ room_for keep es → ascending xs ≡ true
+made_ascending keep es xs h e = rw e (room_ascending keep es h)
+
 pub room_new : (s keep : ℕ) (es : List Entry) → find s es ≡ None → find s (room_for keep es) ≡ None
 unfolding room_for without
 room_new s keep es h =
@@ -134,6 +152,9 @@ room_free keep es l = grind (arith, nat_tests)
 pub room_full : (keep : ℕ) (es : List Entry) (v : Entry) → 4096 ≤ length es → oldest keep es ≡ Some v → without v.station es ≡ room_for keep es
 unfolding room_for
 room_full keep es v m o = rw (le-ltb (length es) most m, o) refl
+
+pub room_removed : (keep : ℕ) (es : List Entry) (i : ℕ) → ascending es ≡ true → 4096 ≤ length es → i < length es → oldest keep es ≡ Some (get_or es i no_entry) → remove es i ≡ room_for keep es
+room_removed keep es i h m l o = removed_without es h i l ∙ room_full keep es (get_or es i no_entry) m o
 
 -- what is held after a station was heard, as one that is known and as a new one
 pub learned-known : (e : Entry) (keep : ℕ) (es : List Entry) (x : Entry) → find e.station es ≡ Some x → put e es ≡ learned e keep es

@@ -36,7 +36,8 @@ impl Table {
     {
         if self.is_full() {
             if let Some(oldest) = self.oldest_but(keep) {
-                self.entries.retain(|entry| entry.station != oldest.station);
+                let i = self.locate(oldest.station).unwrap();
+                self.entries.remove(i);
             }
         }
     }

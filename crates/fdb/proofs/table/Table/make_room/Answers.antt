@@ -1,25 +1,19 @@
-use Rattle.std.proofs.Common.{◌≡◌, ◌<◌, length, None, refl, ◌∙◌, rules, arith}
+use Rattle.std.proofs.Common.{◌≡◌, ◌<◌, length, None, rules, arith}
 use Rattle.std.proofs.lemmas.Bool.{leb-true, leb-false}
-use Rattle.std.proofs.lemmas.Fn.{filter_same}
-use Rattle.fdb.specs.Entries.{oldest, without}
+use Rattle.fdb.specs.Entries.{oldest}
 use Rattle.fdb.specs.Held.{held}
-use Rattle.fdb.proofs.Ordered.{room_free, room_full, oldest-some, ascending-kept}
-use Rattle.fdb.proofs.Oldest.{others}
-use Rattle.fdb.proofs.Learns.{room-length}
+use Rattle.fdb.proofs.Ordered.{room_free, room_removed, made_ascending, oldest-some}
+use Rattle.fdb.proofs.Found.{oldest-held}
 use Rattle.fdb.proofs.table.Table.make_room.Goals as goal
 
-pub invariant_of-self : goal.invariant_of-self
-invariant_of-self c =
-    let left = filter_same _ (others c.in-Some.oldest.station) _ (λ x r f h. search rules) _ _ c.retain.ensures.filtered in
-    record { room = (omega arith, omega arith); sorted = rw left (ascending-kept (others c.in-Some.oldest.station) _ c.args.self.now.sorted) }
+pub unwrap-i-requires : goal.unwrap-i-requires
+unwrap-i-requires c = search (rules, oldest-held)
 
-pub returns-in-Some : goal.returns-in-Some
-unfolding without
-returns-in-Some c =
-    let es = held c.args.self.now in
-    let left = filter_same _ (others c.in-Some.oldest.station) _ (λ x r f h. search rules) _ _ c.retain.ensures.filtered in
-    let whole = left ∙ room_full c.args.keep es c.in-Some.oldest (search (rules, leb-true)) (search rules) in
-    record { items = whole; room = rw whole (room-length c.args.keep es c.args.self.now.sorted (search rules)); heard = refl }
+pub invariant_of-self-clause-sorted : goal.invariant_of-self-clause-sorted
+invariant_of-self-clause-sorted c = made_ascending c.args.keep (held c.args.self.now) _ c.args.self.now.sorted (search (rules, room_removed, oldest-held, leb-true))
+
+pub returns-in-Some-clause-items : goal.returns-in-Some-clause-items
+returns-in-Some-clause-items c = search (rules, room_removed, oldest-held, leb-true)
 
 pub returns-in_default : goal.returns-in_default
 returns-in_default c =
