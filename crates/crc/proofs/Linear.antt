@@ -67,6 +67,11 @@ unfolding shifted
 shifted-below n h =
     xor_lt 32 (n / 2) (n % 2 * polynomial) (omega arith) (omega arith)
 
+pub after-below : (k n : ℕ) → n < 2 ^ 32 → after k n < 2 ^ 32
+unfolding after
+after-below zero n h = h
+after-below (suc k) n h = after-below k (shifted n) (shifted-below n h)
+
 -- taking in the k low bits of n is adding n and shifting k times
 pub register-low : (k c n : ℕ) → n < 2 ^ k → register c (low_bits k n) ≡ after k (bit_xor c n)
 unfolding register low_bits taken after

@@ -42,7 +42,7 @@ has-not a k h l = ap (λ n. eqb n 1) (bit_at_not w128 a (127 - k) h (omega arith
 
 -- one bit
 
-has_one : (b k : ℕ) → b < 128 → k < 128 → has (2 ^ (127 - b)) k ≡ eqb k b
+pub has_one : (b k : ℕ) → b < 128 → k < 128 → has (2 ^ (127 - b)) k ≡ eqb k b
 unfolding has
 has_one b k h l = elim (ℕ_discrete k b) [
   | yes e ↦ eq-eqb _ _ (ap (λ m. bit (2 ^ (127 - b)) (127 - m)) e ∙ bit_at-pow_same (127 - b)) ∙ sym (eq-eqb k b e)
