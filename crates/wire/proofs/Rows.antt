@@ -1,5 +1,5 @@
 -- Rows of pairs of bytes.
-use Rattle.std.proofs.Common.{◌≡◌, ℕ, zero, suc, ◌+◌, ◌*◌, ◌/◌, ◌%◌, ◌<◌, List, [], ◌∷◌, ◌++◌, length, get_or, sym, refl, ap, ◌∙◌, inl, inr, arith}
+use Rattle.std.proofs.Common.{◌≡◌, ℕ, zero, suc, ◌+◌, ◌*◌, ◌/◌, ◌%◌, ◌<◌, ◌≤◌, List, [], ◌∷◌, ◌++◌, length, get_or, take, sym, refl, ap, ◌∙◌, inl, inr, arith}
 use Rattle.std.proofs.lemmas.Bool.{cases_eq}
 use Rattle.std.proofs.lemmas.List.{ext_get_or}
 use Rattle.std.specs.List.{flat_map}
@@ -55,3 +55,12 @@ flat_from (r ∷ rows) f g i (suc n) l h =
 pub pairs_flat : (rows : List (List ℕ)) (f g : ℕ → ℕ) (n : ℕ) → length rows ≡ n → ((k : ℕ) → k < n → get_or rows k [] ≡ f k ∷ (g k ∷ []))
     → flat_map (λ pair. pair) rows ≡ pairs_of f g 0 n
 pairs_flat rows f g n l h = flat_from rows f g 0 n l (λ k q. let here : k ≡ 0 + k = omega arith in h k q ∙ ap (λ j. f j ∷ (g j ∷ [])) here)
+
+-- the first pairs of more
+pub take-pairs : (f g : ℕ → ℕ) (i n k : ℕ) → k ≤ n → take (2 * k) (pairs_of f g i n) ≡ pairs_of f g i k
+unfolding pairs_of
+take-pairs f g i n zero h = refl
+take-pairs f g i zero (suc k) h = absurd (omega arith)
+take-pairs f g i (suc n) (suc k) h =
+    let two : 2 * suc k ≡ suc (suc (2 * k)) = omega arith in
+    ap (λ m. take m (pairs_of f g i (suc n))) two ∙ ap (λ r. f i ∷ (g i ∷ r)) (take-pairs f g (suc i) n k (omega arith))
