@@ -41,7 +41,7 @@ unfolding vlans_can_be
 each_can_be b zero h = refl
 each_can_be b (suc n) h = ap (λ t. t && vlans_can_be b n) (le-leb (vlan_in b n) 4094 (h n (omega arith))) ∙ each_can_be b n (λ k l. h k (omega arith))
 
-can_be_each : (b : List ℕ) (n : ℕ) → vlans_can_be b n ≡ true → (k : ℕ) → k < n → vlan_in b k ≤ 4094
+pub can_be_each : (b : List ℕ) (n : ℕ) → vlans_can_be b n ≡ true → (k : ℕ) → k < n → vlan_in b k ≤ 4094
 unfolding vlans_can_be
 can_be_each b zero e k l = absurd (omega arith)
 can_be_each b (suc n) e k l =
