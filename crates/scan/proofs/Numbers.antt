@@ -8,7 +8,7 @@ use Rattle.scan.specs.Bytes.{is_of}
 use Rattle.scan.specs.Parts.{is_digits, number_in, value_after}
 
 -- a value grows with each digit
-grows : (v : ℕ) (ds : List ℕ) → v ≤ value_after v ds
+pub grows : (v : ℕ) (ds : List ℕ) → v ≤ value_after v ds
 grows v [] = omega arith
 grows v (d ∷ ds) = omega (arith, grows (v * 10 + (d - 48)) ds)
 
@@ -20,7 +20,7 @@ module _ (low high : ℕ) (w : List ℕ) where
   pub empty : length w ≡ 0 → None ≡ number_in low high w
   empty e = no_digits (grind (arith, nat_tests))
 
-  too_high : high < value_after 0 w → None ≡ number_in low high w
+  pub too_high : high < value_after 0 w → None ≡ number_in low high w
   unfolding number_in
   too_high e = grind (arith, nat_tests)
 

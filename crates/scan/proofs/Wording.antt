@@ -1,13 +1,11 @@
 -- The words of a line, one by one.
-use Rattle.std.proofs.Common.{◌≡◌, ℕ, suc, ◌+◌, Bool, true, false, not, eqb, ◌⊎◌, List, [], ◌∷◌, length, take, drop, Bor, Option, Some, None, rules, true-eqb, false-eqb, sym, refl, ap, ◌∙◌, subst, inl, inr, one-add, arith}
-use Rattle.std.specs.Bool.{then_some, ⊤}
-use Rattle.std.specs.Iterator.{MakesProgress, YieldsFirstRef, item_count}
-use Rattle.std.specs.List.{prefix_len}
+use Rattle.std.proofs.Common.{◌≡◌, ℕ, suc, ◌+◌, Bool, true, false, not, ◌&&◌, eqb, ◌⊎◌, List, [], ◌∷◌, length, take, drop, Bor, Option, MatchOption, true-eqb, false-eqb, sym, refl, ap, ◌∙◌, subst, inl, inr, one-add, arith}
+use Rattle.std.specs.Bool.{then_some}
+use Rattle.std.specs.List.{prefix_len, list_all}
+use Rattle.std.proofs.lemmas.Bool.Decides.{nat_tests}
 use Rattle.std.proofs.lemmas.Bool.{cond-true, cond-false}
 use Rattle.scan.specs.declared.bytes.Kind.TheVariants.{Blank, Solid}
 use Rattle.scan.specs.Bytes.{blank, is_of}
-use Rattle.scan.specs.declared.reader.Words.{Words}
-use Rattle.scan.specs.Reading.{left}
 use Rattle.scan.specs.Words.{words_of, before, skipped, after_of, first_of}
 
 module _ (p : ℕ → Bool) (b : ℕ) (bs : List ℕ) where
@@ -81,7 +79,7 @@ words_word b (c ∷ cs) e = rw (take-yes solid b (c ∷ cs) (not-blank b false e
     go true k h = rw (take_no solid c cs (not-blank c true k), drop-no solid c cs (not-blank c true k)) (before-blank b c cs (words_of (c ∷ cs)) k)
     go false k h = ap (λ ws. before b (c ∷ cs) ws) (h k) ∙ before-solid b c cs _ _ k
 
-no_word : (bs : List ℕ) → length (first_of bs) ≡ 0 → words_of bs ≡ []
+pub no_word : (bs : List ℕ) → length (first_of bs) ≡ 0 → words_of bs ≡ []
 no_word bs e = go (skipped-shape bs)
   where
     go : (skipped bs ≡ []) ⊎ ((b : ℕ) × (cs : List ℕ) × (skipped bs ≡ b ∷ cs) × (blank b ≡ false)) → words_of bs ≡ []
@@ -91,7 +89,7 @@ no_word bs e = go (skipped-shape bs)
         omega (arith, ap length z)
         )
 
-none_after : (bs : List ℕ) → length (first_of bs) ≡ 0 → words_of (after_of bs) ≡ []
+pub none_after : (bs : List ℕ) → length (first_of bs) ≡ 0 → words_of (after_of bs) ≡ []
 none_after bs e = go (skipped-shape bs)
   where
     go : (skipped bs ≡ []) ⊎ ((b : ℕ) × (cs : List ℕ) × (skipped bs ≡ b ∷ cs) × (blank b ≡ false)) → words_of (after_of bs) ≡ []
@@ -101,7 +99,7 @@ none_after bs e = go (skipped-shape bs)
         omega (arith, ap length z)
         )
 
-next_word : (bs : List ℕ) → (length (first_of bs) ≡ 0 → ⊥) → words_of bs ≡ first_of bs ∷ words_of (after_of bs)
+pub next_word : (bs : List ℕ) → (length (first_of bs) ≡ 0 → ⊥) → words_of bs ≡ first_of bs ∷ words_of (after_of bs)
 next_word bs e = go (skipped-shape bs)
   where
     go : (skipped bs ≡ []) ⊎ ((b : ℕ) × (cs : List ℕ) × (skipped bs ≡ b ∷ cs) × (blank b ≡ false)) → words_of bs ≡ first_of bs ∷ words_of (after_of bs)
@@ -115,14 +113,18 @@ cut_word bs s hs hn hf hr = (
 )
 
 -- what is taken is the first word, where there is one
-pub takes : (s t : Words) (w : Bor (List ℕ)) (o : Option (Bor (List ℕ))) (b : Bool) → w.now ≡ first_of s.rest.now → t.rest.now ≡ after_of s.rest.now → b ≡ eqb (length w.now) 0 → o ≡ then_some (not b) w → YieldsFirstRef left s o t
-takes s t w o true hw ht e k =
-    let none : length (first_of s.rest.now) ≡ 0 = sym (ap length hw) ∙ true-eqb _ 0 e in
-    subst (λ o. YieldsFirstRef left s o t) (sym k) (no_word s.rest.now none, ap words_of ht ∙ none_after s.rest.now none)
-takes s t w o false hw ht e k =
-    subst (λ o. YieldsFirstRef left s o t) (sym k) (next_word s.rest.now (λ h. false-eqb _ 0 e (ap length hw ∙ h)) ∙ (λ i. sym hw i ∷ words_of (sym ht i)))
+pub takes : (bs cs : List ℕ) (w : Bor (List ℕ)) (o : Option (Bor (List ℕ))) (b : Bool) → w.now ≡ first_of bs → cs ≡ after_of bs → b ≡ eqb (length w.now) 0 → o ≡ then_some (not b) w → MatchOption o ((words_of bs ≡ []) × (words_of cs ≡ [])) (λ w. words_of bs ≡ w.now ∷ words_of cs)
+takes bs cs w o true hw hc e k =
+    let none : length (first_of bs) ≡ 0 = sym (ap length hw) ∙ true-eqb _ 0 e in
+    subst (λ o. MatchOption o ((words_of bs ≡ []) × (words_of cs ≡ [])) (λ w. words_of bs ≡ w.now ∷ words_of cs)) (sym k) (no_word bs none, ap words_of hc ∙ none_after bs none)
+takes bs cs w o false hw hc e k =
+    subst (λ o. MatchOption o ((words_of bs ≡ []) × (words_of cs ≡ [])) (λ w. words_of bs ≡ w.now ∷ words_of cs)) (sym k) (next_word bs (λ h. false-eqb _ 0 e (ap length hw ∙ h)) ∙ (λ i. sym hw i ∷ words_of (sym hc i)))
 
--- each word that is taken leaves fewer
-pub fewer : (s t : Words) (o : Option (Bor (List ℕ))) → YieldsFirstRef left s o t → MakesProgress (λ _. ⊤) (item_count left) s o t
-fewer s t None h = record { on = λ _. search rules; keeps = tt; rests = λ _. tt }
-fewer s t (Some w) h = let e = ap length h in record { on = λ _. search (rules, arith); keeps = tt; rests = λ _. tt }
+-- all bytes pass where the front that passes is the whole
+pub all-leading : (p : ℕ → Bool) (bs : List ℕ) → list_all p bs ≡ eqb (prefix_len p bs) (length bs)
+all-leading p [] = refl
+all-leading p (b ∷ bs) = go (p b) refl (all-leading p bs)
+  where
+    go : (t : Bool) → p b ≡ t → list_all p bs ≡ eqb (prefix_len p bs) (length bs) → (p b && list_all p bs) ≡ eqb (prefix_len p (b ∷ bs)) (suc (length bs))
+    go true e h = grind (arith, nat_tests, lead_yes p b bs e)
+    go false e h = grind (arith, nat_tests, lead_no p b bs e)

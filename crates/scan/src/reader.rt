@@ -1,8 +1,6 @@
 // The words of a line, one after the other.
-ghost use Rattle.std.specs.Prelude.{◌≡◌, ⊤};
-ghost use Rattle.std.specs.Iterator.{MakesProgress, YieldsFirstRef, item_count};
-ghost use Rattle.scan.specs.Words.{after_of, skipped};
-ghost use Rattle.scan.specs.Reading.{left};
+ghost use Rattle.std.specs.Prelude.{◌≡◌, [], ◌∷◌, MatchOption};
+ghost use Rattle.scan.specs.Words.{words_of, after_of, skipped};
 
 use crate::bytes::{Kind, run};
 
@@ -20,6 +18,18 @@ impl<'a> Words<'a> {
         Words { rest: line }
     }
 
+    /// Takes the next word, or says that there is none.
+    // Stays: in an Iterator, whose `skip` takes it by value, `words.skip()` would be that one and not the one below.
+    pub fn next(&mut self) -> Option<&'a [u8]>
+        ensures cases { MatchOption result ((words_of self.old.rest.now ≡ []) × (words_of self.new.rest.now ≡ [])) (λ w. words_of self.old.rest.now ≡ w.now ∷ words_of self.new.rest.now) }
+        ensures after { self.new.rest.now ≡ after_of self.old.rest.now }
+    {
+        self.skip();
+        let (word, rest) = self.rest.split_at(run(self.rest, Kind::Solid));
+        self.rest = rest;
+        (!word.is_empty()).then_some(word)
+    }
+
     /// Passes over the blanks before the next word.
     pub fn skip(&mut self)
         ensures { self.new.rest.now ≡ skipped self.old.rest.now }
@@ -32,25 +42,5 @@ impl<'a> Words<'a> {
         ensures { result.now ≡ self.now.rest.now }
     {
         self.rest
-    }
-}
-
-impl<'a> Iterator for Words<'a> {
-    type Item = &'a [u8];
-
-    ghost next_gives = { YieldsFirstRef left };
-
-    ghost remaining = { item_count left };
-
-    /// Takes the next word, or says that there is none.
-    fn next(&mut self) -> Option<&'a [u8]>
-        ensures cases { YieldsFirstRef left self.old result self.new }
-        ensures goes { MakesProgress (λ _. ⊤) (item_count left) self.old result self.new }
-        ensures after { self.new.rest.now ≡ after_of self.old.rest.now }
-    {
-        self.skip();
-        let (word, rest) = self.rest.split_at(run(self.rest, Kind::Solid));
-        self.rest = rest;
-        (!word.is_empty()).then_some(word)
     }
 }

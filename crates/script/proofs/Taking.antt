@@ -11,11 +11,11 @@ use Rattle.script.specs.declared.faults.Expected.{Expected}
 use Rattle.script.specs.declared.faults.Expected.TheVariants as expected
 use Rattle.script.specs.Grammar.{IsPart, part, tail, ended, text_of}
 
-tail_none : {ws vs : List (List ℕ)} → ws ≡ [] → vs ≡ [] → vs ≡ tail ws
+pub tail_none : {ws vs : List (List ℕ)} → ws ≡ [] → vs ≡ [] → vs ≡ tail ws
 unfolding tail
 tail_none h k = k ∙ ap tail (sym h)
 
-tail-some : {ws vs : List (List ℕ)} {w : List ℕ} → ws ≡ w ∷ vs → vs ≡ tail ws
+pub tail-some : {ws vs : List (List ℕ)} {w : List ℕ} → ws ≡ w ∷ vs → vs ≡ tail ws
 unfolding tail
 tail-some h = ap tail (sym h)
 

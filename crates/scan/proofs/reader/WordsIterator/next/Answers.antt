@@ -1,8 +1,0 @@
-use Rattle.scan.proofs.Wording.{takes, fewer, cut_word}
-use Rattle.scan.proofs.reader.WordsIterator.next.Goals as goal
-
-pub returns : goal.returns
-returns c =
-    let cut = cut_word c.args.self.now.rest.now _ c.skip.ensures c.run.ensures.value c.split_at.ensures.front c.split_at.ensures.back in
-    let cases = takes c.args.self.now (record { rest = c.split_at.result.1 }) c.split_at.result.0 c.then_some.result c.is_empty.result cut.0 cut.1 c.is_empty.ensures c.then_some.ensures in
-    record { cases = cases; goes = fewer _ _ _ cases; after = cut.1 }
