@@ -1,5 +1,6 @@
 // Each kind of fault, with its line.
 use layout::session::{FAULT, Session};
+use scan::reader::Words;
 use script::faults::Expected;
 use std::alloc::Global;
 use std::process::Abort;
@@ -22,6 +23,22 @@ fn faults_at(
         }
     }
     assert_eq!(rt; seen, line);
+    Ok(())
+}
+
+#[test]
+fn words_of_a_line(rt: HostRuntime) -> Result<(), Fail> {
+    let mut words = Words::new(b"  send \tall  good  day ");
+    words.skip();
+    assert_eq!(rt; words.rest(), b"send \tall  good  day ".as_slice());
+    assert_eq!(rt; words.next(), Some(b"send".as_slice()));
+    assert_eq!(rt; words.next(), Some(b"all".as_slice()));
+    assert_eq!(rt; words.rest(), b"  good  day ".as_slice());
+    words.skip();
+    assert_eq!(rt; words.rest(), b"good  day ".as_slice());
+    assert_eq!(rt; words.next(), Some(b"good".as_slice()));
+    assert_eq!(rt; words.next(), Some(b"day".as_slice()));
+    assert_eq!(rt; words.next(), None);
     Ok(())
 }
 
