@@ -1,5 +1,5 @@
 // The bridges in the boxes.
-ghost use Rattle.std.specs.Prelude.{◌≡◌, ℕ, ◌<◌, IfOk, OnOk, OnErr, None, slice_index_or};
+ghost use Rattle.std.specs.Prelude.{◌≡◌, ℕ, ◌<◌, length, IfOk, OnOk, OnErr, None, slice_index_or};
 ghost use Rattle.std.specs.Option.{option_map};
 ghost use Rattle.trees.specs.Ids.{id_number};
 ghost use Rattle.forwarding.specs.State.{aged_state};
@@ -61,7 +61,8 @@ pub(crate) fn prepare_all(
 
 /// Each bridge forgets what is old.
 pub(crate) fn age_all(bridges: &mut [Option<Bridge>; 6], tick: u64)
-    ensures { (n : ℕ) → n < 6 → state_in (slice_index_or bridges.new n None) ≡ become (aged_state tick) (state_in (slice_index_or bridges.old n None)) }
+    ensures length { length bridges.new ≡ length bridges.old }
+    ensures aged { (n : ℕ) → n < 6 → state_in (slice_index_or bridges.new n None) ≡ become (aged_state tick) (state_in (slice_index_or bridges.old n None)) }
 {
     for slot in bridges.iter_mut() {
         slots::age(slot, tick);

@@ -1,5 +1,5 @@
 // The player of a script: the bridges in the boxes, the trees that were announced, and the clock.
-ghost use Rattle.std.specs.Prelude.{◌≡◌, ℕ, ◌+◌, ◌-◌, ◌^◌, ◌<◌, min, max, IfOk, OnOk, OnErr, if◌then◌else◌, None, ◌≢◌, nat_lt, slice_index_or, slice_set, find, reverse};
+ghost use Rattle.std.specs.Prelude.{◌≡◌, ℕ, ◌+◌, ◌-◌, ◌^◌, ◌<◌, min, max, length, IfOk, OnOk, OnErr, if◌then◌else◌, None, ◌≢◌, nat_lt, slice_index_or, slice_set, find, reverse};
 ghost use Rattle.forwarding.specs.State.{aged_state, crashed};
 ghost use Rattle.scenario.specs.Boxes.{PreparedBelow, PartlyPrepared};
 ghost use Rattle.scenario.specs.Forest.{Announced};
@@ -74,6 +74,7 @@ impl Player {
 
     /// The bridge of a box falls.
     pub fn fall(&mut self, node: u8)
+        ensures length { length self.new.bridges ≡ length self.old.bridges }
         ensures here { node < 6 → state_in (slice_index_or self.new.bridges node None) ≡ become crashed (state_in (slice_index_or self.old.bridges node None)) }
         ensures others { (n : ℕ) → (n ≢ node) → slice_index_or self.new.bridges n None ≡ slice_index_or self.old.bridges n None }
         ensures same { Kept self.old self.new }
@@ -85,6 +86,7 @@ impl Player {
 
     /// Ticks pass, and then each bridge forgets what is old.
     pub fn tick(&mut self, ticks: u32)
+        ensures length { length self.new.bridges ≡ length self.old.bridges }
         ensures clock { self.new.clock ≡ min (self.old.clock + ticks) (2 ^ 64 - 1) }
         ensures aged { (n : ℕ) → n < 6 → state_in (slice_index_or self.new.bridges n None) ≡ become (aged_state self.new.clock) (state_in (slice_index_or self.old.bridges n None)) }
         ensures same { (self.new.losses ≡ self.old.losses) × (self.new.forest ≡ self.old.forest) }
@@ -110,6 +112,7 @@ impl Player {
 
     /// A box adopts the latest tree that was announced with a sequence number.
     pub fn adopt(&mut self, wiring: &Wiring, node: u8, seq: u32) -> Result<(), Refusal>
+        ensures length { length self.new.bridges ≡ length self.old.bridges }
         ensures after { AdoptedAt wiring.now.nodes node seq self.old result self.new }
         ensures same { Kept self.old self.new }
     {
