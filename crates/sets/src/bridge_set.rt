@@ -100,7 +100,7 @@ impl BridgeSet {
         ensures whole { result ≡ bytes_of self.bits }
         ensures members { (k : ℕ) → k < 128 → has_byte result k ≡ has self.bits k }
     {
-        self.bits.to_be_bytes()
+        mask_bytes(self.bits)
     }
 
     // The set that 16 bytes of a message say.
@@ -109,7 +109,23 @@ impl BridgeSet {
         ensures members { MembersAre result.bits (has_byte bytes) }
     {
         BridgeSet {
-            bits: u128::from_be_bytes(bytes),
+            bits: mask_of(bytes),
         }
     }
+}
+
+// The 16 bytes of a mask, high byte first.
+fn mask_bytes(mask: u128) -> [u8; 16]
+    ensures whole { result ≡ bytes_of mask }
+    ensures members { (k : ℕ) → k < 128 → has_byte result k ≡ has mask k }
+{
+    mask.to_be_bytes()
+}
+
+// The mask that 16 bytes make, high byte first.
+fn mask_of(bytes: [u8; 16]) -> u128
+    ensures whole { result ≡ number_of bytes }
+    ensures members { MembersAre result (has_byte bytes) }
+{
+    u128::from_be_bytes(bytes)
 }

@@ -1,7 +1,7 @@
 use Rattle.std.proofs.Common.{◌≡◌, ap, ◌∙◌, arith, rules}
 use Rattle.sets.specs.Sets.{has, number_of}
 use Rattle.sets.proofs.InBytes.{has-number}
-use Rattle.sets.proofs.bridge_set.BridgeSet.from_bytes.Goals as goal
+use Rattle.sets.proofs.bridge_set.mask_of.Goals as goal
 
 pub returns : goal.returns
 unfolding number_of
