@@ -1,11 +1,10 @@
 // Settings in bytes.
 ghost use Rattle.std.specs.Prelude.{◌≡◌, ◌↔◌, ℕ, ◌+◌, ◌*◌, ◌<◌, ◌≤◌, true, false, [], ◌++◌, length, is_ok, if◌then◌else◌, EachIndex, IsTrue, MatchOption, slice_index, slice_index_or};
 ghost use Rattle.frames.specs.SettingsBytes.{DecodesSettings, settings_bytes, settings_head, vlans_can_be, VlansSay};
-ghost use Rattle.wire.specs.Bytes.{in_two, two};
+ghost use Rattle.wire.specs.Bytes.{in_two};
 
 use super::Settings;
 use std::alloc::AllocError;
-use std::array;
 use wire::{Fault, Kind, Reader, append};
 
 impl Settings {
@@ -67,15 +66,11 @@ fn read_vlans(bytes: &[u8], ports: usize) -> Option<[u16; 16]>
     ensures { MatchOption result (vlans_can_be bytes.now ports ≡ false) (λ v. (vlans_can_be bytes.now ports ≡ true) × VlansSay bytes.now ports v) }
 {
     let (cells, _) = bytes[7..7 + 2 * ports].as_chunks::<2>();
-    let vlans = array::from_fn(|port| vlan_of(cells, port));
-    can_be(&vlans).then_some(vlans)
-}
-
-// The vlan in a port's cell, 0 where it has none.
-fn vlan_of(cells: &[[u8; 2]], port: usize) -> u16
-    ensures { result ≡ two (slice_index_or cells.now port []) 0 }
-{
-    cells.get(port).map_or(0, |cell| u16::from_be_bytes(*cell))
+    let mut vlans = [0; 16];
+    for (port, cell) in cells.iter().enumerate() {
+        vlans[port] = u16::from_be_bytes(*cell);
+    }
+    can_be(&vlans[..ports]).then_some(vlans)
 }
 
 // Is each of them a vlan, or none?

@@ -1,25 +1,33 @@
-use Rattle.std.proofs.Common.{◌≡◌, ◌<◌, ◌+◌, ◌*◌, ◌-◌, ◌/◌, ℕ, get_or, length, take, drop, [], ap, subst, ◌∙◌, arith, rules}
-use Rattle.std.proofs.lemmas.List.{length-drop, length-take-le}
-use Rattle.std.specs.Simd.{first_chunks}
+use Rattle.std.proofs.Common.{◌<◌, get_or, set, length, ◌∙◌, [], ap, sym, inl, inr, arith, rules}
+use Rattle.std.proofs.lemmas.Bool.{cases_eq}
+use Rattle.std.proofs.lemmas.List.{length-set, get_or-set_same, get_or-set_other}
+use Rattle.frames.proofs.Vlans.{cells_are, vlans_read}
 use Rattle.wire.specs.Bytes.{two}
-use Rattle.wire.proofs.Arrays.{made_each}
-use Rattle.frames.proofs.Vlans.{vlan_there, vlan_none, vlans_read}
 use Rattle.frames.proofs.settings.codec.read_vlans.Goals as goal
+
+pub loop-port-preserved : goal.loop-port-preserved
+loop-port-preserved c =
+    let v = c.loop-port.vlans in
+    let p = c.loop-port.port in
+    let cells = c.as_chunks.result.0.now in
+    let w = c.from_be_bytes.result in
+    let inv = c.loop-port.invariant in
+    let cut = cells_are c.args.bytes.now c.args.ports cells c.requires.1 c.as_chunks.ensures.front in
+    let here : p < length v = omega (arith, cut.0, c.requires.0, inv.0, c.loop-port-test.true) in (
+      length-set v p w ∙ inv.0,
+      (λ j l. elim (cases_eq j p) [
+        | inl s ↦ ap (λ i. get_or (set v p w) i 0) s ∙ get_or-set_same v p w 0 here ∙ c.from_be_bytes.ensures ∙ ap (λ i. two (get_or cells i []) 0) (sym s)
+        | inr ne ↦ get_or-set_other v p j w 0 ne ∙ inv.1 j (omega arith)
+      ]),
+      (λ j l m. get_or-set_other v p j w 0 (λ s. omega arith) ∙ inv.2 j (omega arith) m),
+    )
 
 pub returns : goal.returns
 returns c =
-    let b = c.args.bytes.now in
     let n = c.args.ports in
-    let vs = c.from_fn-vlans.result in
-    let cells = c.as_chunks.result.0.now in
-    let each = made_each _ (λ k y. y ≡ two (get_or cells k []) 0) _ vs 0 (λ i y q k. (search rules, search rules)) c.from_fn-vlans.ensures.items in
-    let cut : 7 + 2 * n - 7 ≡ 2 * n = omega arith in
-    let long : length (take (2 * n) (drop 7 b)) / 2 ≡ n =
-    omega (arith, length-take-le (2 * n) (drop 7 b) (omega (arith, length-drop 7 b, c.requires))) in
-    let are : cells ≡ first_chunks 2 n (take (2 * n) (drop 7 b)) =
-    subst (λ m. cells ≡ first_chunks 2 m (take (2 * n) (drop 7 b))) long
-    (subst (λ m. cells ≡ first_chunks 2 (length (take m (drop 7 b)) / 2) (take m (drop 7 b))) cut c.as_chunks.ensures.front) in
-    let at : (k : ℕ) → k < 16 → get_or vs k 0 ≡ two (get_or (first_chunks 2 n (take (2 * n) (drop 7 b))) k []) 0 = λ k l. each k l ∙ ap (λ cs. two (get_or cs k []) 0) are in
-    let r = vlans_read b vs n c.can_be.result c.requires.0 c.from_fn-vlans.ensures.items.long
-    (λ k h. at k (omega (arith, c.requires)) ∙ vlan_there b n k h) (λ k l h. at k l ∙ vlan_none b n k (omega arith)) c.can_be.ensures in
+    let inv = c.loop-port.invariant in
+    let cut = cells_are c.args.bytes.now n c.as_chunks.result.0.now c.requires.1 c.as_chunks.ensures.front in
+    let r = vlans_read c.args.bytes.now c.loop-port.vlans n c.can_be.result c.requires.0 inv.0
+    (λ k h. inv.1 k (omega (arith, cut.0, c.loop-port-test.false)) ∙ cut.1 k h)
+    (λ k l h. inv.2 k (omega (arith, cut.0, c.loop-port.auto.port-end)) l) c.can_be.ensures in
     search (rules, r)
